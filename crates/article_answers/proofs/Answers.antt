@@ -1,6 +1,6 @@
 -- What is answered of an article's page is the article's own answer.
-use Rattle.std.proofs.Common.{◌≡◌, ℕ, zero, suc, ◌<◌, Bool, false, List, Option, None, ⊎_elim, refl, sym, ap, subst}
-use Rattle.std.proofs.Common.{◌∙◌, arith}
+use Rattle.std.proofs.Common.{◌≡◌, ◌<◌, ⊎_elim, ◌∙◌, Bool, List, None, Option, ap, arith, false, refl, subst, suc, sym}
+use Rattle.std.proofs.Common.{zero, ℕ}
 use Rattle.article_answers.specs.ArticleAnswers.{IsForArticles, IsWritten, answer_of, article_answer, options_for}
 use Rattle.article_page_laws.specs.ArticleValues.{AreRulesOf}
 use Rattle.article_definitions.specs.ArticleValues.{page_values}

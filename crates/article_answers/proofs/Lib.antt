@@ -1,4 +1,4 @@
 mod Answers
 mod FilledTexts
 mod PlainRules
-mod ToldLines
+mod EmittedLines

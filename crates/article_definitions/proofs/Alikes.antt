@@ -1,10 +1,11 @@
 -- Lines that are alike but for a paragraph's.
-use Rattle.std.proofs.Common.{◌≡◌, ℕ, Bool, true, false, not, ◌||◌, List, [], ◌∷◌, ◌++◌, map, None, if◌then◌else◌, refl}
-use Rattle.std.proofs.Common.{sym, ap, subst, ◌∙◌, append_assoc, append-nil}
+use Rattle.std.proofs.Common.{◌≡◌, ◌||◌, [], ◌∷◌, ◌++◌, if◌then◌else◌, ◌∙◌, Bool, List, None, ap, append-nil}
+use Rattle.std.proofs.Common.{append_assoc, false, map, not, refl, subst, sym, true, ℕ}
 use Rattle.std.proofs.lemmas.List.Elements.{filter-append}
 use Rattle.std.proofs.lemmas.List.Folds.{list_any-append}
 use Rattle.article_definitions.specs.Exchanges.{Alike, IsParagraph, changed, is_number, no_lines, others, same_line}
-use Rattle.article_definitions.specs.Layouts.{Line, Options, behind, empty_line, has_content, parted, prefixed, outermost}
+use Rattle.article_definitions.specs.Layouts.{Line, Options, trailing, empty_line, has_content, parted, prefixed}
+use Rattle.article_definitions.specs.Layouts.{outermost}
 use Rattle.text_pieces.specs.Sources.{is_filled}
 
 module _ (n : ℕ) where
@@ -69,10 +70,10 @@ module _ (n : ℕ) where
     kept_by false l l' ls ls' h k = k h
 
     numbers_kept : (prefix : List ℕ) (ls : List Line) → others n ls ≡ [] →
-        others n (map (behind o width prefix) ls) ≡ []
+        others n (map (trailing o width prefix) ls) ≡ []
     numbers_kept prefix [] h = refl
-    numbers_kept prefix (l ∷ ls) h = kept_by (not (is_number n l.number)) l (behind o width prefix l) (others n ls)
-        (others n (map (behind o width prefix) ls)) h (numbers_kept prefix ls)
+    numbers_kept prefix (l ∷ ls) h = kept_by (not (is_number n l.number)) l (trailing o width prefix l) (others n ls)
+        (others n (map (trailing o width prefix) ls)) h (numbers_kept prefix ls)
 
     or_by : (b c d d' : Bool) → (b || d) ≡ true → (d ≡ true → d' ≡ true) → ((b || c) || d') ≡ true
     or_by true c d d' h k = refl
@@ -80,22 +81,22 @@ module _ (n : ℕ) where
     or_by false false d d' h k = k h
 
     content_kept : (prefix : List ℕ) (ls : List Line) → has_content ls ≡ true →
-        has_content (map (behind o width prefix) ls) ≡ true
+        has_content (map (trailing o width prefix) ls) ≡ true
     content_kept prefix [] h = h
     content_kept prefix (l ∷ ls) h = or_by l.content (is_filled prefix) (has_content ls)
-        (has_content (map (behind o width prefix) ls)) h (content_kept prefix ls)
+        (has_content (map (trailing o width prefix) ls)) h (content_kept prefix ls)
 
     map_both : (f : Line → Line) (ls ms : List Line) → map f (ls ++ ms) ≡ map f ls ++ map f ms
     map_both f [] ms = refl
     map_both f (l ∷ ls) ms = ap (λ t. f l ∷ t) (map_both f ls ms)
 
     alike_mapped : (prefix : List ℕ) (ls ms : List Line) → Alike n ls ms →
-        Alike n (map (behind o width prefix) ls) (map (behind o width prefix) ms)
+        Alike n (map (trailing o width prefix) ls) (map (trailing o width prefix) ms)
     alike_mapped prefix _ _ no_lines = no_lines
-    alike_mapped prefix _ _ (same_line l ls ms a) = same_line (behind o width prefix l)
-        (map (behind o width prefix) ls) (map (behind o width prefix) ms) (alike_mapped prefix ls ms a)
+    alike_mapped prefix _ _ (same_line l ls ms a) = same_line (trailing o width prefix l)
+        (map (trailing o width prefix) ls) (map (trailing o width prefix) ms) (alike_mapped prefix ls ms a)
     alike_mapped prefix _ _ (changed xs ys ls ms p q a) =
-        let f : Line → Line = behind o width prefix in
+        let f : Line → Line = trailing o width prefix in
         subst (λ l. Alike n l (map f (ys ++ ms))) (sym (map_both f xs ls))
         (subst (λ l. Alike n (map f xs ++ map f ls) l) (sym (map_both f ys ms))
         (changed (map f xs) (map f ys) (map f ls) (map f ms)
@@ -106,29 +107,29 @@ module _ (n : ℕ) where
     -- a paragraph with content has a line, so the first prefix stands before a line of it
     both_prefixed : (first following : List ℕ) (xs ls : List Line) → has_content xs ≡ true →
         prefixed o width first following (xs ++ ls)
-        ≡ prefixed o width first following xs ++ map (behind o width following) ls
+        ≡ prefixed o width first following xs ++ map (trailing o width following) ls
     both_prefixed first following [] ls h = absurd (let wrong : false ≡ true = h in cc)
     both_prefixed first following (x ∷ xs) ls h =
-        ap (λ t. behind o width first x ∷ t) (map_both (behind o width following) xs ls)
+        ap (λ t. trailing o width first x ∷ t) (map_both (trailing o width following) xs ls)
 
     pub prefixed_is : (first following : List ℕ) (xs : List Line) → IsParagraph n xs →
         IsParagraph n (prefixed o width first following xs)
     prefixed_is first following [] p = p
     prefixed_is first following (x ∷ xs) p = record {
-      all = kept_by (not (is_number n x.number)) x (behind o width first x) (others n xs)
-          (others n (map (behind o width following) xs)) p.all (numbers_kept following xs);
-      shows = or_by x.content (is_filled first) (has_content xs) (has_content (map (behind o width following) xs))
+      all = kept_by (not (is_number n x.number)) x (trailing o width first x) (others n xs)
+          (others n (map (trailing o width following) xs)) p.all (numbers_kept following xs);
+      shows = or_by x.content (is_filled first) (has_content xs) (has_content (map (trailing o width following) xs))
           p.shows (content_kept following xs);
     }
 
     pub alike_prefixed : (first following : List ℕ) (ls ms : List Line) → Alike n ls ms →
         Alike n (prefixed o width first following ls) (prefixed o width first following ms)
     alike_prefixed first following _ _ no_lines = no_lines
-    alike_prefixed first following _ _ (same_line l ls ms a) = same_line (behind o width first l)
-        (map (behind o width following) ls) (map (behind o width following) ms) (alike_mapped following ls ms a)
+    alike_prefixed first following _ _ (same_line l ls ms a) = same_line (trailing o width first l)
+        (map (trailing o width following) ls) (map (trailing o width following) ms) (alike_mapped following ls ms a)
     alike_prefixed first following _ _ (changed xs ys ls ms p q a) =
         let f : List Line → List Line = prefixed o width first following in
-        let g : List Line → List Line = map (behind o width following) in
+        let g : List Line → List Line = map (trailing o width following) in
         subst (λ l. Alike n l (f (ys ++ ms))) (sym (both_prefixed first following xs ls p.shows))
         (subst (λ l. Alike n (f xs ++ g ls) l) (sym (both_prefixed first following ys ms q.shows))
         (changed (f xs) (f ys) (g ls) (g ms) (prefixed_is first following xs p) (prefixed_is first following ys q)

@@ -1,25 +1,22 @@
 -- The calls of an article's blocks lay just its lines.
-use Rattle.std.proofs.Common.{◌≡◌, ℕ, ℤ, suc, ◌+◌, Bool, true, false, ◌||◌, List, [], ◌∷◌, ◌++◌, map, replicate}
-use Rattle.std.proofs.Common.{codes, Option, None, Some, if◌then◌else◌, fold, refl, sym, ap, ◌∙◌, append_assoc}
-use Rattle.std.proofs.Common.{append-nil}
+use Rattle.std.proofs.Common.{◌≡◌, ◌+◌, ◌||◌, [], ◌∷◌, ◌++◌, if◌then◌else◌, ◌∙◌, Bool, List, None, Option, Some, ap}
+use Rattle.std.proofs.Common.{append-nil, append_assoc, codes, false, fold, map, refl, replicate, suc, sym, true, ℕ, ℤ}
 use Rattle.std.specs.Option.{option_and_then, option_map}
 use Rattle.text_lines.specs.Tagged.{Item}
 use Rattle.block_layout.specs.Laid.{Laid, Running, add_block, add_prefixed, add_text_line, add_text_lines, end_block}
-use Rattle.block_layout.specs.Laid.{flush, flush_of, laid_text, parted as laid_parted, start_block, text_laid}
-use Rattle.block_layout.specs.Laid.{without_running}
-use Rattle.block_layout.specs.Laid.{has_content as cells_have_content}
+use Rattle.block_layout.specs.Laid.{flush, flush_of, has_content as cells_have_content, laid_text}
+use Rattle.block_layout.specs.Laid.{parted as laid_parted, start_block, text_laid, without_running}
 use Rattle.block_layout.specs.declared.measure.Measure.{Measure}
 use Rattle.article_values.specs.Articles.{Blocks, Inlines, Items, bullets, division, heading, item, no_blocks, no_items}
 use Rattle.article_values.specs.Articles.{numbers, paragraph, quote}
-use Rattle.article_definitions.specs.BlockCalls.{append, awaits_behind, run_blocks, run_items}
+use Rattle.article_definitions.specs.BlockCalls.{append, awaits_after, run_blocks, run_items}
 use Rattle.article_definitions.specs.Calls.{block_with, cell_of, measure, run, run_whole}
 use Rattle.render_sizes.specs.Extents.{capped}
-use Rattle.article_definitions.specs.Layouts.{Line, Options, Tag, behind, count, count_items, empty_line, has_content}
-use Rattle.article_definitions.specs.Layouts.{how_many, item_prefix, lay, lay_items, least_in, least_of, least_of_items}
-use Rattle.article_definitions.specs.Layouts.{next_number}
-use Rattle.article_definitions.specs.Layouts.{paragraph_lines, parted, parts_of, prefixed, quote_prefix, room}
-use Rattle.article_definitions.specs.Layouts.{room_of_numbers, targets_in}
-use Rattle.article_definitions.specs.Layouts.{targets_of, targets_of_items, to_room, outermost, within}
+use Rattle.article_definitions.specs.Layouts.{Line, Options, Tag, count, count_items, empty_line, has_content, how_many}
+use Rattle.article_definitions.specs.Layouts.{item_prefix, lay, lay_items, least_in, least_of, least_of_items}
+use Rattle.article_definitions.specs.Layouts.{next_number, outermost, paragraph_lines, parted, parts_of, prefixed}
+use Rattle.article_definitions.specs.Layouts.{quote_prefix, room, room_of_numbers, targets_in, targets_of}
+use Rattle.article_definitions.specs.Layouts.{targets_of_items, to_room, trailing, within}
 use Rattle.layout_state.specs.Items.{spaces}
 use Rattle.article_definitions.proofs.Called.{KeepsMarkers, paragraph_called}
 
@@ -57,10 +54,10 @@ module _ (kept : KeepsMarkers) (o : Options) where
   cells_both [] ys = refl
   cells_both (x ∷ xs) ys = ap (λ t. cell_of x ∷ t) (cells_both xs ys)
 
-  pub behind_lines : (xs ys : List Line) (awaits : Bool) →
+  pub after_lines : (xs ys : List Line) (awaits : Bool) →
       record { lines = map cell_of xs ++ map cell_of ys; running = None; awaits = awaits; markers = []; hanging = [] }
       ≡ laid (xs ++ ys) awaits
-  behind_lines xs ys awaits = ap (λ cs. let all : Laid Tag =
+  after_lines xs ys awaits = ap (λ cs. let all : Laid Tag =
       record { lines = cs; running = None; awaits = awaits; markers = []; hanging = [] } in all)
       (sym (cells_both xs ys))
 
@@ -80,7 +77,7 @@ module _ (kept : KeepsMarkers) (o : Options) where
           markers = [];
           hanging = [];
         } else laid lines false) ≡ laid (if b then lines ++ empty_line o width outermost None ∷ [] else lines) false
-    started_by lines awaits true = behind_lines lines (empty_line o width outermost None ∷ []) false
+    started_by lines awaits true = after_lines lines (empty_line o width outermost None ∷ []) false
     started_by lines awaits false = refl
 
     pub started_is : (lines : List Line) (awaits : Bool) →
@@ -99,25 +96,25 @@ module _ (kept : KeepsMarkers) (o : Options) where
     module _ (within : ℕ) where
       others_added : (following : List ℕ) (lines before : List Line) (awaits : Bool) →
           fold (add_prefixed (measure o within) m outermost following) (laid before awaits) (map cell_of lines)
-          ≡ laid (before ++ map (behind o width following) lines) awaits
+          ≡ laid (before ++ map (trailing o width following) lines) awaits
       others_added following [] before awaits = ap (λ ls. laid ls awaits) (sym (append-nil before))
       others_added following (l ∷ lines) before awaits =
-          let one : Line = behind o width following l in
+          let one : Line = trailing o width following l in
           ap (λ b. fold (add_prefixed (measure o within) m outermost following) b (map cell_of lines))
-          (behind_lines before (one ∷ []) awaits)
+          (after_lines before (one ∷ []) awaits)
           ∙ others_added following lines (before ++ one ∷ []) awaits
-          ∙ ap (λ ls. laid ls awaits) (append_assoc before (one ∷ []) (map (behind o width following) lines))
+          ∙ ap (λ ls. laid ls awaits) (append_assoc before (one ∷ []) (map (trailing o width following) lines))
 
       appended : (first following : List ℕ) (lines before : List Line) (awaits : Bool) →
           add_block (measure o within) m outermost first following (map cell_of lines) (laid before awaits)
           ≡ laid (before ++ prefixed o width first following lines) awaits
       appended first following [] before awaits = ap (λ ls. laid ls awaits) (sym (append-nil before))
       appended first following (l ∷ lines) before awaits =
-          let one : Line = behind o width first l in
+          let one : Line = trailing o width first l in
           ap (λ b. fold (add_prefixed (measure o within) m outermost following) b (map cell_of lines))
-          (behind_lines before (one ∷ []) awaits)
+          (after_lines before (one ∷ []) awaits)
           ∙ others_added following lines (before ++ one ∷ []) awaits
-          ∙ ap (λ ls. laid ls awaits) (append_assoc before (one ∷ []) (map (behind o width following) lines))
+          ∙ ap (λ ls. laid ls awaits) (append_assoc before (one ∷ []) (map (trailing o width following) lines))
 
     -- ---- text that runs is laid out before anything else is done
 
@@ -210,7 +207,7 @@ module _ (kept : KeepsMarkers) (o : Options) where
   abbrev IsLaid : (width k : ℕ) (ts : List (List ℕ)) → Blocks → List Line → Bool → Type 0
   IsLaid width k ts a lines awaits =
       option_and_then (flush (measure o width) outermost) (run_blocks o width ts a (laid lines awaits))
-      ≡ option_map (λ all. laid all (awaits_behind a awaits)) (lay o width k ts a lines)
+      ≡ option_map (λ all. laid all (awaits_after a awaits)) (lay o width k ts a lines)
 
   -- what stands after a paragraph
   rest_laid : (width k : ℕ) (ts : List (List ℕ)) (rest : Blocks) (before : List Line) (ran : Option (Laid Tag))
@@ -220,7 +217,7 @@ module _ (kept : KeepsMarkers) (o : Options) where
       ((lines : List Line) → IsLaid width k ts rest (before ++ lines) true) →
       option_and_then (flush (measure o width) outermost)
       (option_and_then (λ b. run_blocks o width ts rest (end_block b)) ran)
-      ≡ option_map (λ all. laid all (awaits_behind rest true))
+      ≡ option_map (λ all. laid all (awaits_after rest true))
       (option_and_then (λ lines. lay o width k ts rest (before ++ lines)) new)
   rest_laid width k ts rest before None None e h = refl
   rest_laid width k ts rest before None (Some lines) e h = cc
@@ -229,7 +226,7 @@ module _ (kept : KeepsMarkers) (o : Options) where
   rest_laid width k ts rest before (Some b) (Some lines) e h =
       goes_on width ts rest (end_block b) (before ++ lines) true
       (flush_awaited (measure o width) outermost b ∙ ap (option_map end_block) e
-      ∙ ap Some (behind_lines before lines true))
+      ∙ ap Some (after_lines before lines true))
       ∙ h lines
 
   -- what stands after a block that was laid
@@ -237,7 +234,7 @@ module _ (kept : KeepsMarkers) (o : Options) where
       (y : Option (List Line)) →
       x ≡ option_map (λ lines. laid lines awaits) y → ((lines : List Line) → IsLaid width k ts rest lines awaits) →
       option_and_then (flush (measure o width) outermost) (option_and_then (run_blocks o width ts rest) x)
-      ≡ option_map (λ all. laid all (awaits_behind rest awaits)) (option_and_then (lay o width k ts rest) y)
+      ≡ option_map (λ all. laid all (awaits_after rest awaits)) (option_and_then (lay o width k ts rest) y)
   then_laid width k ts rest awaits x None e h =
       ap (λ x. option_and_then (flush (measure o width) outermost) (option_and_then (run_blocks o width ts rest) x)) e
   then_laid width k ts rest awaits x (Some lines) e h =
@@ -253,7 +250,7 @@ module _ (kept : KeepsMarkers) (o : Options) where
       (λ b. run_blocks o width (ts ++ targets_in o is) rest (end_block (append o width within prefix prefix sub b)))
       (start_block (measure o width) outermost (laid lines awaits)))
       (run_whole (measure o within) (parts_of o outermost ts is) (block_with [] None []))) space)
-      ≡ option_map (λ all. laid all (awaits_behind rest true))
+      ≡ option_map (λ all. laid all (awaits_after rest true))
       (option_and_then (λ new. lay o width (suc k) (ts ++ targets_in o is) rest
       (parted o width lines ++ prefixed o width prefix prefix new))
       (option_and_then (λ within. paragraph_lines o within k ts is) space))
@@ -273,7 +270,7 @@ module _ (kept : KeepsMarkers) (o : Options) where
           ++ codes " ") sub b)))
           (start_block (measure o width) outermost (laid lines awaits)))
           (option_map (λ ls. block_with (map cell_of ls) None []) new)) → x
-          ≡ option_map (λ all. laid all (awaits_behind rest true))
+          ≡ option_map (λ all. laid all (awaits_after rest true))
           (option_and_then (λ new. lay o width (suc k) (ts ++ targets_in o is) rest
           (parted o width lines ++ prefixed o width (replicate level 0x23 ++ codes " ")
           (replicate level 0x23 ++ codes " ") new))
@@ -299,7 +296,7 @@ module _ (kept : KeepsMarkers) (o : Options) where
       (end_block (append o width within quote_prefix quote_prefix sub b)))
       (start_block (measure o width) outermost (laid lines awaits)))
       (option_and_then (flush (measure o within) outermost) (run_blocks o within ts kids (laid [] false)))) space)
-      ≡ option_map (λ all. laid all (awaits_behind rest true))
+      ≡ option_map (λ all. laid all (awaits_after rest true))
       (option_and_then (λ new. lay o width (k + count kids) (ts ++ targets_of o kids) rest
       (parted o width lines ++ prefixed o width quote_prefix quote_prefix new))
       (option_and_then (λ within. lay o within k ts kids []) space))
@@ -316,8 +313,8 @@ module _ (kept : KeepsMarkers) (o : Options) where
           (λ b. run_blocks o width (ts ++ targets_of o kids) rest
           (end_block (append o width within quote_prefix quote_prefix sub b)))
           (start_block (measure o width) outermost (laid lines awaits)))
-          (option_map (λ all. laid all (awaits_behind kids false)) new))
-          ≡ option_map (λ all. laid all (awaits_behind rest true))
+          (option_map (λ all. laid all (awaits_after kids false)) new))
+          ≡ option_map (λ all. laid all (awaits_after rest true))
           (option_and_then (λ new. lay o width (k + count kids) (ts ++ targets_of o kids) rest
           (parted o width lines ++ prefixed o width quote_prefix quote_prefix new)) new)
       by None = refl
@@ -358,7 +355,7 @@ module _ (kept : KeepsMarkers) (o : Options) where
           (λ b. run_items o width (ts ++ targets_of o kids) columns least (next_number at) rest
           (append o width within (to_room columns (item_prefix at)) (spaces columns) sub b))
           (flush (measure o width) outermost (laid lines false)))
-          (option_map (λ all. laid all (awaits_behind kids false)) new)
+          (option_map (λ all. laid all (awaits_after kids false)) new)
           ≡ option_map (λ all. laid all false) (option_and_then (λ new. lay_items o width (k + count kids)
           (ts ++ targets_of o kids) columns least (next_number at) rest
           (lines ++ prefixed o width (to_room columns (item_prefix at)) (spaces columns) new)) new)
@@ -386,11 +383,11 @@ module _ (kept : KeepsMarkers) (o : Options) where
         (room width (level + 1) (capped (least_in o is + (level + 1))))
         (λ before. blocks_called width (suc k) (ts ++ targets_in o is) rest before true)
     blocks_called width k ts (division kids rest) lines awaits =
-        then_laid width (k + count kids) (ts ++ targets_of o kids) rest (awaits_behind kids awaits)
+        then_laid width (k + count kids) (ts ++ targets_of o kids) rest (awaits_after kids awaits)
         (option_and_then (flush (measure o width) outermost) (run_blocks o width ts kids (laid lines awaits)))
         (lay o width k ts kids lines) (blocks_called width k ts kids lines awaits)
         (λ before. blocks_called width (k + count kids) (ts ++ targets_of o kids) rest before
-        (awaits_behind kids awaits))
+        (awaits_after kids awaits))
     blocks_called width k ts (quote kids rest) lines awaits =
         quote_laid width k ts kids rest lines awaits (room width 2 (capped (least_of o kids + 2)))
         (λ within. blocks_called within k ts kids [] false)
@@ -437,4 +434,4 @@ module _ (kept : KeepsMarkers) (o : Options) where
       ≡ option_map (map cell_of) (lay o width 0 [] a [])
   lines_called width a =
       ap (option_map (λ (b : Laid Tag). b.lines)) (blocks_called width 0 [] a [] false)
-      ∙ lines_alone (awaits_behind a false) (lay o width 0 [] a [])
+      ∙ lines_alone (awaits_after a false) (lay o width 0 [] a [])

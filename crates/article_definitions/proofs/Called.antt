@@ -1,6 +1,6 @@
 -- The calls of a paragraph lay just its lines.
-use Rattle.std.proofs.Common.{◌≡◌, ℕ, Bool, true, false, not, ◌&&◌, List, [], ◌∷◌, ◌++◌, map, Option, None, Some}
-use Rattle.std.proofs.Common.{if◌then◌else◌, refl, sym, ap, ◌∙◌, append_assoc, append-nil}
+use Rattle.std.proofs.Common.{◌≡◌, ◌&&◌, [], ◌∷◌, ◌++◌, if◌then◌else◌, ◌∙◌, Bool, List, None, Option, Some, ap}
+use Rattle.std.proofs.Common.{append-nil, append_assoc, false, map, not, refl, sym, true, ℕ}
 use Rattle.std.specs.Option.{option_and_then, option_map}
 use Rattle.std.specs.Prelude.{flat_map}
 use Rattle.text_normal.specs.Letters.{has_marker}
@@ -11,18 +11,17 @@ use Rattle.text_pieces.specs.Items.{markers_of}
 use Rattle.text_pieces.specs.Sources.{Source, fragment, fragments, is_filled, letter, names_of as marker_names, sourced}
 use Rattle.text_pieces.specs.declared.white_space.WhiteSpace.{WhiteSpace}
 use Rattle.text_pieces.specs.declared.white_space.WhiteSpace.TheVariants.{Normal}
-use Rattle.text_wrapping.specs.Blocks.{Block, ended_lines, ends_in_columns, padded, took_all, without_source}
-use Rattle.text_wrapping.specs.Blocks.{lines_behind as ended_behind}
+use Rattle.text_wrapping.specs.Blocks.{Block, ended_lines, ends_in_columns, lines_after as ended_after, padded}
+use Rattle.text_wrapping.specs.Blocks.{took_all, without_source}
 use Rattle.text_preserved.specs.Preserved.{names_of}
-use Rattle.block_layout.specs.Laid.{Laid, Running, add_empty_line, add_text, add_text_lines, behind_empty_line}
-use Rattle.block_layout.specs.Laid.{break_line, broken_line, flush, laid_text, text_laid, with_added, with_markers}
-use Rattle.block_layout.specs.Laid.{with_running, with_text_of}
-use Rattle.block_layout.specs.Laid.{lines_behind as found_behind}
+use Rattle.block_layout.specs.Laid.{Laid, Running, add_empty_line, add_text, add_text_lines, after_empty_line}
+use Rattle.block_layout.specs.Laid.{break_line, broken_line, flush, laid_text, lines_after as found_after, text_laid}
+use Rattle.block_layout.specs.Laid.{with_added, with_markers, with_running, with_text_of}
 use Rattle.block_layout.specs.declared.measure.Measure.{Measure}
 use Rattle.article_definitions.specs.Calls.{block_with, cell_of, measure, run, run_whole}
 use Rattle.article_definitions.specs.Layouts.{Line, Options, Part, Stretch, Tag, all_fit, begun_by, break_lines, breaks}
-use Rattle.article_definitions.specs.Layouts.{empty_line, if_fits, line_of, lines_of_stretches, paragraph_lines, parts_of}
-use Rattle.article_definitions.specs.Layouts.{says, stretch_lines, stretches, wrap_at, outermost}
+use Rattle.article_definitions.specs.Layouts.{empty_line, if_fits, line_of, lines_of_stretches, outermost}
+use Rattle.article_definitions.specs.Layouts.{paragraph_lines, parts_of, says, stretch_lines, stretches, wrap_at}
 use Rattle.article_values.specs.Articles.{Inlines}
 
 -- ---- nothing
@@ -102,8 +101,8 @@ module _ (kept : KeepsMarkers) (o : Options) (width k : ℕ) (hanging : List (Ha
   found_in lines names = option_map (λ ls. (names, ls)) (ended_lines (text_block lines []))
 
   text_by : (s : List (Source Tag)) (b : Bool) → has_marker s ≡ false →
-      option_and_then found_behind (option_map (λ e. (names_of e.source, without_source e))
-      (if b then None else Some (ended_behind (text_block [] s) (normal_lines w s))))
+      option_and_then found_after (option_map (λ e. (names_of e.source, without_source e))
+      (if b then None else Some (ended_after (text_block [] s) (normal_lines w s))))
       ≡ if_fits (not b) ([], normal_lines w s)
   text_by s true h = refl
   text_by s false h =
@@ -178,7 +177,7 @@ module _ (kept : KeepsMarkers) (o : Options) (width k : ℕ) (hanging : List (Ha
       (sym (append-nil (map (line_of o width k (stretch fill s close)) lines)))
   broken_by fill close mode s lines before false =
       let shown : List Line = map (line_of o width k (stretch fill s close)) lines in
-      ap (option_map (behind_empty_line m close)) (flush_ended fill close mode s lines before)
+      ap (option_map (after_empty_line m close)) (flush_ended fill close mode s lines before)
       ∙ ap (λ ls. let laid : Option (Laid Tag) = Some (at ls None) in laid)
       (append_assoc before (map cell_of shown) (empty_cell close ∷ [])
       ∙ ap (λ ls. before ++ ls) (sym (both_mapped shown (empty_line o width close (Some k) ∷ []))))
@@ -195,7 +194,7 @@ module _ (kept : KeepsMarkers) (o : Options) (width k : ℕ) (hanging : List (Ha
       option_and_then (broken_line m close (at before (Some (runs mode (text_block [] s) fill))))
       (option_map (with_text_of (runs mode (text_block [] s) fill))
       (option_map (λ e. (ends_in_columns (normal_lines w s), e))
-      (if b then None else Some (ended_behind (text_block [] s) (normal_lines w s)))))
+      (if b then None else Some (ended_after (text_block [] s) (normal_lines w s)))))
       ≡ if_fits (not b) (at (before ++ map cell_of (map (line_of o width k (stretch fill s close)) (normal_lines w s)
       ++ break_lines o width k close (normal_lines w s))) None)
   break_by fill close mode s before true h = refl
@@ -325,13 +324,13 @@ module _ (kept : KeepsMarkers) (o : Options) (width k : ℕ) (hanging : List (Ha
   IsBegun parts = (before : List (CellLine Tag)) → run_whole m parts (at before None)
       ≡ lay_all before (stretches None [] parts)
 
-  behind_break : (b : Bool) (first : List Line) (parts : List Part) (before : List (CellLine Tag)) → IsBegun parts →
+  after_break : (b : Bool) (first : List Line) (parts : List Part) (before : List (CellLine Tag)) → IsBegun parts →
       option_and_then (flush m outermost)
       (option_and_then (run m parts) (if_fits b (at (before ++ map cell_of first) None)))
       ≡ option_and_then (λ (laid : Laid Tag). lay_all laid.lines (stretches None [] parts))
       (if_fits b (at (before ++ map cell_of first) None))
-  behind_break true first parts before h = h (before ++ map cell_of first)
-  behind_break false first parts before h = refl
+  after_break true first parts before h = h (before ++ map cell_of first)
+  after_break false first parts before h = refl
 
   mutual
     begun : (parts : List Part) → IsBegun parts
@@ -366,7 +365,7 @@ module _ (kept : KeepsMarkers) (o : Options) (width k : ℕ) (hanging : List (Ha
         map (line_of o width k st) (normal_lines w s) ++ break_lines o width k tag (normal_lines w s) in
         ap (λ x. option_and_then (flush m outermost) (option_and_then (run m parts) x))
         (break_text fill tag (mode_by b) s before h)
-        ∙ behind_break (not (has_wide_text w s)) first parts before (begun parts)
+        ∙ after_break (not (has_wide_text w s)) first parts before (begun parts)
         ∙ further (not (has_wide_text w s)) first st (stretches None [] parts) before refl refl
         (some_stretch None [] parts)
 

@@ -1,6 +1,6 @@
 -- Articles that differ in one text with a visible character have lines that are alike but for its paragraph.
-use Rattle.std.proofs.Common.{◌≡◌, ℕ, ℤ, suc, ◌+◌, ◌-◌, nat_le, max, Bool, true, false, ◌&&◌, if◌then◌else◌, List, []}
-use Rattle.std.proofs.Common.{◌++◌, replicate, codes, Option, None, Some, refl, sym, ap, subst, ◌∙◌}
+use Rattle.std.proofs.Common.{◌≡◌, ◌+◌, ◌-◌, ◌&&◌, if◌then◌else◌, [], ◌++◌, ◌∙◌, Bool, List, None, Option, Some, ap}
+use Rattle.std.proofs.Common.{codes, false, max, nat_le, refl, replicate, subst, suc, sym, true, ℕ, ℤ}
 use Rattle.std.proofs.lemmas.Option.{none-some, option_and_then_some, same_Some}
 use Rattle.std.specs.List.{list_any}
 use Rattle.std.specs.Option.{option_and_then, option_map}
@@ -12,17 +12,15 @@ use Rattle.text_pieces.specs.Sources.{Source, is_filled}
 use Rattle.article_definitions.specs.Showing.{has_visible}
 use Rattle.article_values.specs.Articles.{Blocks, Items, bullets, division, heading, item, no_blocks, no_items, numbers}
 use Rattle.article_values.specs.Articles.{paragraph, quote}
-use Rattle.article_definitions.specs.Exchanges.{Alike, Differ, DifferItems, behind_bullets, behind_division, behind_heading}
-use Rattle.article_definitions.specs.Exchanges.{behind_item, behind_numbers, behind_paragraph, in_bullets, in_division}
-use Rattle.article_definitions.specs.Exchanges.{behind_quote, in_item, in_numbers, in_quote, others, this_heading}
-use Rattle.article_definitions.specs.Exchanges.{this_paragraph}
+use Rattle.article_definitions.specs.Exchanges.{Alike, Differ, DifferItems, after_bullets, after_division}
+use Rattle.article_definitions.specs.Exchanges.{after_heading, after_item, after_numbers, after_paragraph, after_quote}
+use Rattle.article_definitions.specs.Exchanges.{in_bullets, in_division, in_item, in_numbers, in_quote, others}
+use Rattle.article_definitions.specs.Exchanges.{this_heading, this_paragraph}
 use Rattle.render_sizes.specs.Extents.{capped}
-use Rattle.article_definitions.specs.Layouts.{Line, Options, count, count_items, how_many, if_fits, item_prefix, layout, lay}
-use Rattle.article_definitions.specs.Layouts.{lay_items, least_in, least_of, least_of_items, next_number, paragraph_lines}
-use Rattle.article_definitions.specs.Layouts.{parted}
-use Rattle.article_definitions.specs.Layouts.{prefixed, quote_prefix, room, room_of_numbers, targets_in, targets_of}
-use Rattle.article_definitions.specs.Layouts.{targets_of_items}
-use Rattle.article_definitions.specs.Layouts.{to_room, Tag, within}
+use Rattle.article_definitions.specs.Layouts.{Line, Options, Tag, count, count_items, how_many, if_fits, item_prefix}
+use Rattle.article_definitions.specs.Layouts.{lay, lay_items, layout, least_in, least_of, least_of_items, next_number}
+use Rattle.article_definitions.specs.Layouts.{paragraph_lines, parted, prefixed, quote_prefix, room, room_of_numbers}
+use Rattle.article_definitions.specs.Layouts.{targets_in, targets_of, targets_of_items, to_room, within}
 use Rattle.layout_state.specs.Items.{spaces}
 use Rattle.article_definitions.proofs.Alikes.{alike_both, alike_changed, alike_others, alike_parted, alike_prefixed}
 use Rattle.article_definitions.proofs.Alikes.{alike_same, prefixed_is}
@@ -132,60 +130,60 @@ mutual
   same_count : (n k : ℕ) (a b : Blocks) → Differ n k a b → count a ≡ count b
   same_count n _ _ _ (this_paragraph a b rest d) = refl
   same_count n _ _ _ (this_heading level a b rest d) = refl
-  same_count n _ _ _ (behind_paragraph k is a b d) = ap (λ c. suc c) (same_count n (suc k) a b d)
-  same_count n _ _ _ (behind_heading k level is a b d) = ap (λ c. suc c) (same_count n (suc k) a b d)
+  same_count n _ _ _ (after_paragraph k is a b d) = ap (λ c. suc c) (same_count n (suc k) a b d)
+  same_count n _ _ _ (after_heading k level is a b d) = ap (λ c. suc c) (same_count n (suc k) a b d)
   same_count n _ _ _ (in_division k a b rest d) = ap (λ c. c + count rest) (same_count n k a b d)
-  same_count n _ _ _ (behind_division k kids a b d) = ap (λ c. count kids + c) (same_count n (k + count kids) a b d)
+  same_count n _ _ _ (after_division k kids a b d) = ap (λ c. count kids + c) (same_count n (k + count kids) a b d)
   same_count n _ _ _ (in_quote k a b rest d) = ap (λ c. c + count rest) (same_count n k a b d)
-  same_count n _ _ _ (behind_quote k kids a b d) = ap (λ c. count kids + c) (same_count n (k + count kids) a b d)
+  same_count n _ _ _ (after_quote k kids a b d) = ap (λ c. count kids + c) (same_count n (k + count kids) a b d)
   same_count n _ _ _ (in_bullets k a b rest d) = ap (λ c. c + count rest) (same_count_items n k a b d)
-  same_count n _ _ _ (behind_bullets k items a b d) =
+  same_count n _ _ _ (after_bullets k items a b d) =
       ap (λ c. count_items items + c) (same_count n (k + count_items items) a b d)
   same_count n _ _ _ (in_numbers k first a b rest d) = ap (λ c. c + count rest) (same_count_items n k a b d)
-  same_count n _ _ _ (behind_numbers k first items a b d) =
+  same_count n _ _ _ (after_numbers k first items a b d) =
       ap (λ c. count_items items + c) (same_count n (k + count_items items) a b d)
 
   same_count_items : (n k : ℕ) (a b : Items) → DifferItems n k a b → count_items a ≡ count_items b
   same_count_items n _ _ _ (in_item k a b rest d) = ap (λ c. c + count_items rest) (same_count n k a b d)
-  same_count_items n _ _ _ (behind_item k kids a b d) =
+  same_count_items n _ _ _ (after_item k kids a b d) =
       ap (λ c. count kids + c) (same_count_items n (k + count kids) a b d)
 
 same_many : (n k : ℕ) (a b : Items) → DifferItems n k a b → how_many a ≡ how_many b
 same_many n _ _ _ (in_item k a b rest d) = refl
-same_many n _ _ _ (behind_item k kids a b d) = ap (λ c. suc c) (same_many n (k + count kids) a b d)
+same_many n _ _ _ (after_item k kids a b d) = ap (λ c. suc c) (same_many n (k + count kids) a b d)
 
 module _ (o : Options) where
   mutual
     pub same_links : (n k : ℕ) (a b : Blocks) → Differ n k a b → targets_of o a ≡ targets_of o b
     same_links n _ _ _ (this_paragraph a b rest d) = ap (λ l. l ++ targets_of o rest) (same_targets o a b d)
     same_links n _ _ _ (this_heading level a b rest d) = ap (λ l. l ++ targets_of o rest) (same_targets o a b d)
-    same_links n _ _ _ (behind_paragraph k is a b d) = ap (λ l. targets_in o is ++ l) (same_links n (suc k) a b d)
-    same_links n _ _ _ (behind_heading k level is a b d) =
+    same_links n _ _ _ (after_paragraph k is a b d) = ap (λ l. targets_in o is ++ l) (same_links n (suc k) a b d)
+    same_links n _ _ _ (after_heading k level is a b d) =
         ap (λ l. targets_in o is ++ l) (same_links n (suc k) a b d)
     same_links n _ _ _ (in_division k a b rest d) = ap (λ l. l ++ targets_of o rest) (same_links n k a b d)
-    same_links n _ _ _ (behind_division k kids a b d) =
+    same_links n _ _ _ (after_division k kids a b d) =
         ap (λ l. targets_of o kids ++ l) (same_links n (k + count kids) a b d)
     same_links n _ _ _ (in_quote k a b rest d) = ap (λ l. l ++ targets_of o rest) (same_links n k a b d)
-    same_links n _ _ _ (behind_quote k kids a b d) =
+    same_links n _ _ _ (after_quote k kids a b d) =
         ap (λ l. targets_of o kids ++ l) (same_links n (k + count kids) a b d)
     same_links n _ _ _ (in_bullets k a b rest d) = ap (λ l. l ++ targets_of o rest) (same_links_items n k a b d)
-    same_links n _ _ _ (behind_bullets k items a b d) =
+    same_links n _ _ _ (after_bullets k items a b d) =
         ap (λ l. targets_of_items o items ++ l) (same_links n (k + count_items items) a b d)
     same_links n _ _ _ (in_numbers k first a b rest d) = ap (λ l. l ++ targets_of o rest) (same_links_items n k a b d)
-    same_links n _ _ _ (behind_numbers k first items a b d) =
+    same_links n _ _ _ (after_numbers k first items a b d) =
         ap (λ l. targets_of_items o items ++ l) (same_links n (k + count_items items) a b d)
 
     same_links_items : (n k : ℕ) (a b : Items) → DifferItems n k a b → targets_of_items o a ≡ targets_of_items o b
     same_links_items n _ _ _ (in_item k a b rest d) = ap (λ l. l ++ targets_of_items o rest) (same_links n k a b d)
-    same_links_items n _ _ _ (behind_item k kids a b d) =
+    same_links_items n _ _ _ (after_item k kids a b d) =
         ap (λ l. targets_of o kids ++ l) (same_links_items n (k + count kids) a b d)
 
   -- ---- one text differs
   module _ (number : ℕ) (shows : (width : ℕ) (s : List (Source Tag)) → has_marker s ≡ false → has_visible s ≡ true →
       list_any has_text (normal_lines width s) ≡ true) where
-    behind_changed : (w k k' : ℕ) (ts ts' : List (List ℕ)) (rest : Blocks) (u v x y : List Line) → k ≡ k' → ts ≡ ts' →
+    after_changed : (w k k' : ℕ) (ts ts' : List (List ℕ)) (rest : Blocks) (u v x y : List Line) → k ≡ k' → ts ≡ ts' →
         lay o w k ts rest u ≡ Some x → lay o w k' ts' rest v ≡ Some y → Alike number u v → Alike number x y
-    behind_changed w k k' ts ts' rest u v x y e f p q a = same_lay o number w k ts rest u v x y p
+    after_changed w k k' ts ts' rest u v x y e f p q a = same_lay o number w k ts rest u v x y p
         (subst (λ k. lay o w k ts rest v ≡ Some y) (sym e) (subst (λ ts. lay o w k' ts rest v ≡ Some y) (sym f) q)) a
 
     mutual
@@ -194,7 +192,7 @@ module _ (o : Options) where
       differ_lay w _ ts _ _ ls ms x y (this_paragraph a b rest d) p q al =
           option_and_then_some _ (paragraph_lines o w number ts a) x p (λ new e f.
           option_and_then_some _ (paragraph_lines o w number ts b) y q (λ new' e' f'.
-          behind_changed w (suc number) (suc number) (ts ++ targets_in o a) (ts ++ targets_in o b) rest
+          after_changed w (suc number) (suc number) (ts ++ targets_in o a) (ts ++ targets_in o b) rest
           (parted o w ls ++ new) (parted o w ms ++ new') x y refl (ap (λ t. ts ++ t) (same_targets o a b d)) f f'
           (alike_both number (parted o w ls) (parted o w ms) new new' (alike_parted number o w ls ms al)
           (alike_changed number new new' (paragraph_is o w number shows ts a new (left_shown a b d) e)
@@ -209,7 +207,7 @@ module _ (o : Options) where
           (λ new' e' f'.
           option_and_then_some _ room_a new e (λ r g h.
           option_and_then_some _ room_b new' e' (λ s g' h'.
-          behind_changed w (suc number) (suc number) (ts ++ targets_in o a) (ts ++ targets_in o b) rest
+          after_changed w (suc number) (suc number) (ts ++ targets_in o a) (ts ++ targets_in o b) rest
           (parted o w ls ++ prefixed o w prefix prefix new) (parted o w ms ++ prefixed o w prefix prefix new') x y refl
           (ap (λ t. ts ++ t) (same_targets o a b d)) f f'
           (alike_both number (parted o w ls) (parted o w ms) (prefixed o w prefix prefix new)
@@ -218,14 +216,14 @@ module _ (o : Options) where
           (prefixed_is number o w prefix prefix new (paragraph_is o r number shows ts a new (left_shown a b d) h))
           (prefixed_is number o w prefix prefix new'
           (paragraph_is o s number shows ts b new' (right_shown a b d) h'))))))))
-      differ_lay w _ ts _ _ ls ms x y (behind_paragraph k is a b d) p q al =
+      differ_lay w _ ts _ _ ls ms x y (after_paragraph k is a b d) p q al =
           let lines : Option (List Line) = paragraph_lines o w k ts is in
           option_and_then_some _ lines x p (λ new e f.
           option_and_then_some _ lines y q (λ new' e' f'.
           differ_lay w (suc k) (ts ++ targets_in o is) a b (parted o w ls ++ new) (parted o w ms ++ new') x y d f f'
           (alike_both number (parted o w ls) (parted o w ms) new new' (alike_parted number o w ls ms al)
           (alike_equal o number new new' (same_some lines new new' e e')))))
-      differ_lay w _ ts _ _ ls ms x y (behind_heading k level is a b d) p q al =
+      differ_lay w _ ts _ _ ls ms x y (after_heading k level is a b d) p q al =
           let prefix : List ℕ = replicate level 0x23 ++ codes " " in
           let lines : Option (List Line) = option_and_then (λ within. paragraph_lines o within k ts is)
           (room w (level + 1) (capped (least_in o is + (level + 1)))) in
@@ -240,10 +238,10 @@ module _ (o : Options) where
       differ_lay w _ ts _ _ ls ms x y (in_division k a b rest d) p q al =
           option_and_then_some _ (lay o w k ts a ls) x p (λ u e f.
           option_and_then_some _ (lay o w k ts b ms) y q (λ v e' f'.
-          behind_changed w (k + count a) (k + count b) (ts ++ targets_of o a) (ts ++ targets_of o b) rest u v
+          after_changed w (k + count a) (k + count b) (ts ++ targets_of o a) (ts ++ targets_of o b) rest u v
           x y (ap (λ c. k + c) (same_count number k a b d)) (ap (λ t. ts ++ t) (same_links number k a b d)) f f'
           (differ_lay w k ts a b ls ms u v d e e' al)))
-      differ_lay w _ ts _ _ ls ms x y (behind_division k kids a b d) p q al =
+      differ_lay w _ ts _ _ ls ms x y (after_division k kids a b d) p q al =
           option_and_then_some _ (lay o w k ts kids ls) x p (λ u e f.
           option_and_then_some _ (lay o w k ts kids ms) y q (λ v e' f'.
           differ_lay w (k + count kids) (ts ++ targets_of o kids) a b u v x y d f f'
@@ -255,7 +253,7 @@ module _ (o : Options) where
           option_and_then_some _ (option_and_then (λ within. lay o within k ts b []) room_b) y q (λ new' e' f'.
           option_and_then_some _ room_a new e (λ r g h.
           option_and_then_some _ room_b new' e' (λ s g' h'.
-          behind_changed w (k + count a) (k + count b) (ts ++ targets_of o a) (ts ++ targets_of o b) rest
+          after_changed w (k + count a) (k + count b) (ts ++ targets_of o a) (ts ++ targets_of o b) rest
           (parted o w ls ++ prefixed o w quote_prefix quote_prefix new)
           (parted o w ms ++ prefixed o w quote_prefix quote_prefix new') x y
           (ap (λ c. k + c) (same_count number k a b d)) (ap (λ t. ts ++ t) (same_links number k a b d)) f f'
@@ -266,7 +264,7 @@ module _ (o : Options) where
           (subst (λ t. lay o t k ts b [] ≡ Some new')
           (sym (same_room w 2 (capped (least_of o a + 2)) (capped (least_of o b + 2)) r s g g')) h')
           (alike_same number []))))))))
-      differ_lay w _ ts _ _ ls ms x y (behind_quote k kids a b d) p q al =
+      differ_lay w _ ts _ _ ls ms x y (after_quote k kids a b d) p q al =
           let lines : Option (List Line) = option_and_then (λ within. lay o within k ts kids [])
           (room w 2 (capped (least_of o kids + 2))) in
           option_and_then_some _ lines x p (λ new e f.
@@ -283,12 +281,12 @@ module _ (o : Options) where
           let lb = capped (least_of_items o b + 2) in
           option_and_then_some _ (lay_items o w k ts 2 la None a (parted o w ls)) x p (λ u e f.
           option_and_then_some _ (lay_items o w k ts 2 lb None b (parted o w ms)) y q (λ v e' f'.
-          behind_changed w (k + count_items a) (k + count_items b) (ts ++ targets_of_items o a)
+          after_changed w (k + count_items a) (k + count_items b) (ts ++ targets_of_items o a)
           (ts ++ targets_of_items o b) rest u v x y (ap (λ c. k + c) (same_count_items number k a b d))
           (ap (λ t. ts ++ t) (same_links_items number k a b d)) f f'
           (differ_items w k ts 2 la lb None a b (parted o w ls) (parted o w ms) u v d e e'
           (alike_parted number o w ls ms al))))
-      differ_lay w _ ts _ _ ls ms x y (behind_bullets k items a b d) p q al =
+      differ_lay w _ ts _ _ ls ms x y (after_bullets k items a b d) p q al =
           let least = capped (least_of_items o items + 2) in
           option_and_then_some _ (lay_items o w k ts 2 least None items (parted o w ls)) x p (λ u e f.
           option_and_then_some _ (lay_items o w k ts 2 least None items (parted o w ms)) y q (λ v e' f'.
@@ -303,14 +301,14 @@ module _ (o : Options) where
           option_and_then_some _ (lay_items o w k ts (room_of_numbers first (how_many b))
           (capped (least_of_items o b + room_of_numbers first (how_many b))) (Some first) b (parted o w ms)) y q
           (λ v e' f'.
-          behind_changed w (k + count_items a) (k + count_items b) (ts ++ targets_of_items o a)
+          after_changed w (k + count_items a) (k + count_items b) (ts ++ targets_of_items o a)
           (ts ++ targets_of_items o b) rest u v x y (ap (λ c. k + c) (same_count_items number k a b d))
           (ap (λ t. ts ++ t) (same_links_items number k a b d)) f f'
           (differ_items w k ts columns la (capped (least_of_items o b + columns)) (Some first) a b (parted o w ls)
           (parted o w ms) u v d e (subst (λ h. lay_items o w k ts (room_of_numbers first h)
           (capped (least_of_items o b + room_of_numbers first h)) (Some first) b (parted o w ms) ≡ Some v) many e')
           (alike_parted number o w ls ms al))))
-      differ_lay w _ ts _ _ ls ms x y (behind_numbers k first items a b d) p q al =
+      differ_lay w _ ts _ _ ls ms x y (after_numbers k first items a b d) p q al =
           let columns = room_of_numbers first (how_many items) in
           let least = capped (least_of_items o items + columns) in
           option_and_then_some _ (lay_items o w k ts columns least (Some first) items (parted o w ls)) x p (λ u e f.
@@ -343,7 +341,7 @@ module _ (o : Options) where
           (differ_lay r k ts a b [] [] new new' d h
           (subst (λ t. lay o t k ts b [] ≡ Some new') (sym (same_room w columns least least' r s g g')) h')
           (alike_same number []))))))))
-      differ_items w _ ts columns least least' at _ _ ls ms x y (behind_item k kids a b d) p q al =
+      differ_items w _ ts columns least least' at _ _ ls ms x y (after_item k kids a b d) p q al =
           let first : List ℕ = to_room columns (item_prefix at) in
           let following : List ℕ = spaces columns in
           option_and_then_some _ (option_and_then (λ within. lay o within k ts kids []) (room w columns least)) x p

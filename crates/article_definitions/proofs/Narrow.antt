@@ -1,6 +1,6 @@
 -- An article has lines where it is laid out and a line has a column.
-use Rattle.std.proofs.Common.{◌≡◌, ℕ, ◌≤◌, Bool, true, false, nat_lt, List, [], Option, None, Some, option_map}
-use Rattle.std.proofs.Common.{if◌then◌else◌, ap, ◌∙◌, arith}
+use Rattle.std.proofs.Common.{◌≡◌, ◌≤◌, [], if◌then◌else◌, ◌∙◌, Bool, List, None, Option, Some, ap, arith, false}
+use Rattle.std.proofs.Common.{nat_lt, option_map, true, ℕ}
 use Rattle.std.proofs.lemmas.Bool.Decides.{nat_tests}
 use Rattle.std.specs.Prelude.{min, unwrap_or}
 use Rattle.article_values.specs.Articles.{Blocks}

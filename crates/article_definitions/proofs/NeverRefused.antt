@@ -1,6 +1,6 @@
 -- Paragraphs alone are never refused where two columns are to be had.
-use Rattle.std.proofs.Common.{◌≡◌, ℕ, suc, ◌≤◌, Bool, true, false, not, ◌&&◌, ◌||◌, nat_lt, List, [], ◌∷◌, ◌++◌}
-use Rattle.std.proofs.Common.{Option, None, Some, refl, ap, ◌∙◌, arith}
+use Rattle.std.proofs.Common.{◌≡◌, ◌≤◌, ◌&&◌, ◌||◌, [], ◌∷◌, ◌++◌, ◌∙◌, Bool, List, None, Option, Some, ap, arith}
+use Rattle.std.proofs.Common.{false, nat_lt, not, refl, suc, true, ℕ}
 use Rattle.std.proofs.lemmas.Bool.Decides.{nat_tests}
 use Rattle.std.specs.Option.{option_and_then}
 use Rattle.std.specs.Prelude.{unwrap_or, IfSome}
@@ -9,9 +9,9 @@ use Rattle.text_lines.specs.Columns.{columns_of, columns_of-at_most_two, width_o
 use Rattle.text_pieces.specs.Sources.{Source, fragment, is_break_point, letter}
 use Rattle.article_values.specs.Articles.{Blocks, Inlines, bullets, division, heading, no_blocks, numbers, paragraph}
 use Rattle.article_values.specs.Articles.{quote}
-use Rattle.article_definitions.specs.Layouts.{Line, Options, Stretch, all_fit, if_fits, lay, lines_of_stretches}
-use Rattle.article_definitions.specs.Layouts.{paragraph_lines, parted, parts_of, stretches, targets_in, wrap_at, Tag}
-use Rattle.article_definitions.specs.Layouts.{outermost}
+use Rattle.article_definitions.specs.Layouts.{Line, Options, Stretch, Tag, all_fit, if_fits, lay, lines_of_stretches}
+use Rattle.article_definitions.specs.Layouts.{outermost, paragraph_lines, parted, parts_of, stretches, targets_in}
+use Rattle.article_definitions.specs.Layouts.{wrap_at}
 use Rattle.article_definitions.specs.Paragraphs.{AreParagraphs}
 
 by_columns : (o : Option ℕ) → IfSome o (λ n. n ≤ 2) → unwrap_or o 0 ≤ 2

@@ -1,12 +1,12 @@
 -- The calls of an article's blocks and of its targets lay just its lines.
-use Rattle.std.proofs.Common.{◌≡◌, ℕ, suc, Bool, true, false, ◌&&◌, List, [], ◌∷◌, ◌++◌, map, Option, None, Some}
-use Rattle.std.proofs.Common.{if◌then◌else◌, fold, refl, sym, ap, ◌∙◌, append_assoc, append-nil}
+use Rattle.std.proofs.Common.{◌≡◌, ◌&&◌, [], ◌∷◌, ◌++◌, if◌then◌else◌, ◌∙◌, Bool, List, None, Option, Some, ap}
+use Rattle.std.proofs.Common.{append-nil, append_assoc, false, fold, map, refl, suc, sym, true, ℕ}
 use Rattle.std.specs.Option.{option_and_then, option_map}
 use Rattle.std.proofs.lemmas.Option.{none-some, same_Some}
 use Rattle.block_layout.specs.Laid.{Laid, add_text_lines, flush, nothing_laid, parted as laid_parted, start_block}
 use Rattle.block_layout.specs.declared.measure.Measure.{Measure}
 use Rattle.article_values.specs.Articles.{Blocks}
-use Rattle.article_definitions.specs.BlockCalls.{add_notes, awaits_behind, noted, run_blocks, run_notes}
+use Rattle.article_definitions.specs.BlockCalls.{add_notes, awaits_after, noted, run_blocks, run_notes}
 use Rattle.article_definitions.specs.Calls.{cell_of, measure}
 use Rattle.article_definitions.specs.Layouts.{Line, Options, Tag, lay, layout, note_line, notes, notes_from, outermost}
 use Rattle.article_definitions.specs.Layouts.{parted, targets_of}
@@ -16,7 +16,7 @@ use Rattle.text_lines.specs.Tagged.{Item, tagged}
 use Rattle.text_borders.specs.Across.{CellLine}
 use Rattle.text_decorators.specs.Texts.{footnote_text}
 use Rattle.text_pieces.specs.Sources.{is_filled}
-use Rattle.article_definitions.proofs.BlocksCalled.{behind_lines, blocks_called, laid, started_is}
+use Rattle.article_definitions.proofs.BlocksCalled.{after_lines, blocks_called, laid, started_is}
 use Rattle.article_definitions.proofs.Called.{KeepsMarkers}
 
 -- ---- where there are targets, some have footnotes
@@ -52,7 +52,7 @@ module _ (kept : KeepsMarkers) (o : Options) (width : ℕ) where
   lines_added [] before awaits = ap (λ ls. at ls awaits) (sym (append-nil before))
   lines_added (l ∷ lines) before awaits =
       let one : Line = note_line o width l in
-      ap (add_text_lines m outermost outermost lines) (behind_lines kept o before (one ∷ []) awaits)
+      ap (add_text_lines m outermost outermost lines) (after_lines kept o before (one ∷ []) awaits)
       ∙ lines_added lines (before ++ one ∷ []) awaits
       ∙ ap (λ ls. at ls awaits) (append_assoc before (one ∷ []) (map (note_line o width) lines))
 
@@ -136,5 +136,5 @@ module _ (kept : KeepsMarkers) (o : Options) (width : ℕ) where
       (option_and_then (run_notes o width (noted o (targets_of o a))) (run_blocks o width [] a nothing_laid)))
       ≡ option_map (map cell_of) (layout o (notes o width) width a)
   whole_called a = called (targets_of o a) (noted_targets o.shares_footnotes (targets_of o a)) o.footnotes
-      (awaits_behind a false) (run_blocks o width [] a nothing_laid) (lay o width 0 [] a [])
+      (awaits_after a false) (run_blocks o width [] a nothing_laid) (lay o width 0 [] a [])
       (some_stand o.shares_footnotes (targets_of o a)) (blocks_called kept o width 0 [] a [] false)

@@ -1,6 +1,6 @@
 -- A paragraph with a visible character has a line with content, and its links don't depend on the text.
-use Rattle.std.proofs.Common.{◌≡◌, ℕ, ◌==◌, Bool, true, false, not, ◌&&◌, ◌||◌, List, [], ◌∷◌, ◌++◌}
-use Rattle.std.proofs.Common.{map, codes, Option, None, Some, if◌then◌else◌, refl, sym, ap, subst, ◌∙◌}
+use Rattle.std.proofs.Common.{◌≡◌, ◌==◌, ◌&&◌, ◌||◌, [], ◌∷◌, ◌++◌, if◌then◌else◌, ◌∙◌, Bool, List, None, Option, Some}
+use Rattle.std.proofs.Common.{ap, codes, false, map, not, refl, subst, sym, true, ℕ}
 use Rattle.std.proofs.lemmas.Bool.{eq-eqb}
 use Rattle.std.proofs.lemmas.List.Elements.{filter-append}
 use Rattle.std.proofs.lemmas.List.Folds.{list_any-append}
@@ -15,13 +15,13 @@ use Rattle.text_pieces.specs.Sources.{Source, is_filled, letter, fragment, sourc
 use Rattle.text_wrapping.specs.Blocks.{ends_in_columns}
 use Rattle.article_definitions.specs.Showing.{has_visible, is_visible}
 use Rattle.article_values.specs.Articles.{Inlines, Style, line_break, link, span, words}
-use Rattle.article_definitions.specs.Exchanges.{DifferInline, IsParagraph, HasVisible, behind_break, behind_link}
-use Rattle.article_definitions.specs.Exchanges.{behind_span, behind_text, in_link, in_span, is_number, others, this_text}
-use Rattle.article_definitions.specs.Layouts.{Line, Options, Part, Stretch, begun_by, all_fit, all_shallow, break_lines}
-use Rattle.article_definitions.specs.Layouts.{breaks, empty_line, has_content, has_none, if_fits, line_of}
-use Rattle.article_definitions.specs.Layouts.{lines_of_stretches, mark_of, number_mark, paragraph_lines, parts_of, says}
-use Rattle.article_definitions.specs.Layouts.{stretch_lines, stretches, targets_in, unless_shallow, wrap_at, Tag, outermost}
-use Rattle.article_definitions.specs.Layouts.{within}
+use Rattle.article_definitions.specs.Exchanges.{DifferInline, HasVisible, IsParagraph, after_break, after_link}
+use Rattle.article_definitions.specs.Exchanges.{after_span, after_text, in_link, in_span, is_number, others, this_text}
+use Rattle.article_definitions.specs.Layouts.{Line, Options, Part, Stretch, Tag, all_fit, all_shallow, begun_by}
+use Rattle.article_definitions.specs.Layouts.{break_lines, breaks, empty_line, has_content, has_none, if_fits, line_of}
+use Rattle.article_definitions.specs.Layouts.{lines_of_stretches, mark_of, number_mark, outermost, paragraph_lines}
+use Rattle.article_definitions.specs.Layouts.{parts_of, says, stretch_lines, stretches, targets_in, unless_shallow}
+use Rattle.article_definitions.specs.Layouts.{within, wrap_at}
 
 -- a text with a visible character stands somewhere
 pub data HasShown : Inlines → Type 0 where
@@ -35,21 +35,21 @@ pub data HasShown : Inlines → Type 0 where
 
 pub left_shown : (a b : Inlines) → DifferInline a b → HasShown a
 left_shown _ _ (this_text cs ds rest h k) = here cs rest h
-left_shown _ _ (behind_text cs a b d) = past_text cs a (left_shown a b d)
-left_shown _ _ (behind_break a b d) = past_break a (left_shown a b d)
+left_shown _ _ (after_text cs a b d) = past_text cs a (left_shown a b d)
+left_shown _ _ (after_break a b d) = past_break a (left_shown a b d)
 left_shown _ _ (in_span style a b rest d) = within_span style a rest (left_shown a b d)
-left_shown _ _ (behind_span style kids a b d) = past_span style kids a (left_shown a b d)
+left_shown _ _ (after_span style kids a b d) = past_span style kids a (left_shown a b d)
 left_shown _ _ (in_link target a b rest d) = within_link target a rest (left_shown a b d)
-left_shown _ _ (behind_link target kids a b d) = past_link target kids a (left_shown a b d)
+left_shown _ _ (after_link target kids a b d) = past_link target kids a (left_shown a b d)
 
 pub right_shown : (a b : Inlines) → DifferInline a b → HasShown b
 right_shown _ _ (this_text cs ds rest h k) = here ds rest k
-right_shown _ _ (behind_text cs a b d) = past_text cs b (right_shown a b d)
-right_shown _ _ (behind_break a b d) = past_break b (right_shown a b d)
+right_shown _ _ (after_text cs a b d) = past_text cs b (right_shown a b d)
+right_shown _ _ (after_break a b d) = past_break b (right_shown a b d)
 right_shown _ _ (in_span style a b rest d) = within_span style b rest (right_shown a b d)
-right_shown _ _ (behind_span style kids a b d) = past_span style kids b (right_shown a b d)
+right_shown _ _ (after_span style kids a b d) = past_span style kids b (right_shown a b d)
 right_shown _ _ (in_link target a b rest d) = within_link target b rest (right_shown a b d)
-right_shown _ _ (behind_link target kids a b d) = past_link target kids b (right_shown a b d)
+right_shown _ _ (after_link target kids a b d) = past_link target kids b (right_shown a b d)
 
 -- ---- Bools
 
@@ -126,15 +126,15 @@ module _ (o : Options) where
   -- the links are the same
   pub same_targets : (a b : Inlines) → DifferInline a b → targets_in o a ≡ targets_in o b
   same_targets _ _ (this_text cs ds rest h k) = refl
-  same_targets _ _ (behind_text cs a b d) = same_targets a b d
-  same_targets _ _ (behind_break a b d) = same_targets a b d
+  same_targets _ _ (after_text cs a b d) = same_targets a b d
+  same_targets _ _ (after_break a b d) = same_targets a b d
   same_targets _ _ (in_span style a b rest d) = ap (λ l. l ++ targets_in o rest) (same_targets a b d)
-  same_targets _ _ (behind_span style kids a b d) = ap (λ l. targets_in o kids ++ l) (same_targets a b d)
+  same_targets _ _ (after_span style kids a b d) = ap (λ l. targets_in o kids ++ l) (same_targets a b d)
   same_targets _ _ (in_link target a b rest d) =
       ap (λ e. unless_shallow e (target ∷ targets_in o a) ++ targets_in o rest)
       (not_shallow a (left_shown a b d) ∙ sym (not_shallow b (right_shown a b d)))
       ∙ ap (λ l. unless_shallow (all_shallow o b) (target ∷ l) ++ targets_in o rest) (same_targets a b d)
-  same_targets _ _ (behind_link target kids a b d) =
+  same_targets _ _ (after_link target kids a b d) =
       ap (λ l. unless_shallow (all_shallow o kids) (target ∷ targets_in o kids) ++ l) (same_targets a b d)
 
   -- ---- what a paragraph says
@@ -172,17 +172,17 @@ module _ (o : Options) where
       (any_later (parts_of o (within d) ts kids) (mark ∷ more)
       (or_right (part_shows mark) (list_any part_shows more)
       (parts_shown d (ts ++ targets_in o kids) a h)))
-  parts_shown d ts _ (within_link target a rest h) = let behind = ts ++ target ∷ targets_in o a in
+  parts_shown d ts _ (within_link target a rest h) = let trailing = ts ++ target ∷ targets_in o a in
       link_shown (all_shallow o a) (says (codes "[") (within d)) (parts_of o (within d) (ts ++ target ∷ []) a)
-      (says (codes "]") (within d) ∷ says (number_mark o behind) d ∷ [])
-      (parts_of o d (if all_shallow o a then ts else behind) rest) (not_shallow a h)
+      (says (codes "]") (within d) ∷ says (number_mark o trailing) d ∷ [])
+      (parts_of o d (if all_shallow o a then ts else trailing) rest) (not_shallow a h)
       (parts_shown (within d) (ts ++ target ∷ []) a h)
-  parts_shown d ts _ (past_link target kids a h) = let behind = ts ++ target ∷ targets_in o kids in
+  parts_shown d ts _ (past_link target kids a h) = let trailing = ts ++ target ∷ targets_in o kids in
       any_later (unless_shallow (all_shallow o kids) (says (codes "[") (within d)
       ∷ (parts_of o (within d) (ts ++ target ∷ []) kids
-      ++ says (codes "]") (within d) ∷ says (number_mark o behind) d ∷ [])))
-      (parts_of o d (if all_shallow o kids then ts else behind) a)
-      (parts_shown d (if all_shallow o kids then ts else behind) a h)
+      ++ says (codes "]") (within d) ∷ says (number_mark o trailing) d ∷ [])))
+      (parts_of o d (if all_shallow o kids then ts else trailing) a)
+      (parts_shown d (if all_shallow o kids then ts else trailing) a h)
 
   break_shown : (b rest rest' : Bool) → (b || rest) ≡ true → (rest ≡ true → rest' ≡ true) → (b || rest') ≡ true
   break_shown true rest rest' h k = refl

@@ -1,6 +1,6 @@
 -- An article's blocks as calls of blocks of lines, by the words of block_layout.
-use Rattle.std.specs.Prelude.{ℕ, ℤ, suc, ◌+◌, Bool, true, false, List, [], ◌∷◌, ◌++◌, replicate, codes, Option}
-use Rattle.std.specs.Prelude.{None, Some, if◌then◌else◌}
+use Rattle.std.specs.Prelude.{◌+◌, [], ◌∷◌, ◌++◌, if◌then◌else◌, Bool, List, None, Option, Some, codes, false}
+use Rattle.std.specs.Prelude.{replicate, suc, true, ℕ, ℤ}
 use Rattle.std.specs.Option.{option_and_then, option_map}
 use Rattle.block_layout.specs.Laid.{Laid, add_block, add_text_lines, end_block, flush, nothing_laid, start_block}
 use Rattle.text_footnotes.specs.Footnotes.{footnote_lines}
@@ -12,8 +12,8 @@ use Rattle.render_sizes.specs.Extents.{capped}
 use Rattle.article_values.specs.Articles.{Blocks, Items, bullets, division, heading, item, no_blocks, no_items, numbers}
 use Rattle.article_values.specs.Articles.{paragraph, quote}
 use Rattle.article_definitions.specs.Calls.{measure, run, run_whole}
-use Rattle.article_definitions.specs.Layouts.{Options, Tag, how_many, outermost, item_prefix, least_in, least_of}
-use Rattle.article_definitions.specs.Layouts.{least_of_items, next_number, parts_of, quote_prefix, room, room_of_numbers}
+use Rattle.article_definitions.specs.Layouts.{Options, Tag, how_many, item_prefix, least_in, least_of, least_of_items}
+use Rattle.article_definitions.specs.Layouts.{next_number, outermost, parts_of, quote_prefix, room, room_of_numbers}
 use Rattle.article_definitions.specs.Layouts.{targets_in, targets_of, targets_of_items, to_room}
 
 -- the lines of another block after prefixes
@@ -64,14 +64,14 @@ abbrev mutual
       (room width columns least)
 
 -- whether the next text would start a block
-abbrev pub awaits_behind : Blocks → Bool → Bool
-awaits_behind no_blocks b = b
-awaits_behind (paragraph is rest) b = awaits_behind rest true
-awaits_behind (heading level is rest) b = awaits_behind rest true
-awaits_behind (division kids rest) b = awaits_behind rest (awaits_behind kids b)
-awaits_behind (quote kids rest) b = awaits_behind rest true
-awaits_behind (bullets items rest) b = awaits_behind rest false
-awaits_behind (numbers first items rest) b = awaits_behind rest false
+abbrev pub awaits_after : Blocks → Bool → Bool
+awaits_after no_blocks b = b
+awaits_after (paragraph is rest) b = awaits_after rest true
+awaits_after (heading level is rest) b = awaits_after rest true
+awaits_after (division kids rest) b = awaits_after rest (awaits_after kids b)
+awaits_after (quote kids rest) b = awaits_after rest true
+awaits_after (bullets items rest) b = awaits_after rest false
+awaits_after (numbers first items rest) b = awaits_after rest false
 
 -- ---- after the last block
 

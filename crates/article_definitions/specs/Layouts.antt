@@ -1,7 +1,6 @@
 -- The layout of an article: lines by recursion on the value, no tag, escape, parser or tree in it.
-use Rattle.std.specs.Prelude.{ℕ, ℤ, suc, ◌+◌, ◌-◌, nat_le, nat_lt, min, max, Bool, true, false, not, ◌&&◌, ◌||◌, List}
-use Rattle.std.specs.Prelude.{[], ◌∷◌, ◌++◌, length, map, replicate, codes, Option, None, Some, unwrap_or}
-use Rattle.std.specs.Prelude.{if◌then◌else◌}
+use Rattle.std.specs.Prelude.{◌+◌, ◌-◌, ◌&&◌, ◌||◌, [], ◌∷◌, ◌++◌, if◌then◌else◌, Bool, List, None, Option, Some, codes}
+use Rattle.std.specs.Prelude.{false, length, map, max, min, nat_le, nat_lt, not, replicate, suc, true, unwrap_or, ℕ, ℤ}
 use Rattle.std.specs.Char.{is_whitespace}
 use Rattle.std.specs.Fmt.{decimal, signed_decimal}
 use Rattle.std.specs.List.{list_all, list_any}
@@ -18,7 +17,7 @@ use Rattle.layout_state.specs.Items.{number_after, spaces}
 use Rattle.render_sizes.specs.Extents.{capped}
 use Rattle.render_sizes.specs.TextSizes.{text_size}
 use Rattle.article_values.specs.Articles.{Blocks, Inlines, Items, Style, bold, bullets, code, division, emphasis}
-use Rattle.article_values.specs.Articles.{heading, italic, item, line_break, link, no_blocks, no_items, no_inlines}
+use Rattle.article_values.specs.Articles.{heading, italic, item, line_break, link, no_blocks, no_inlines, no_items}
 use Rattle.article_values.specs.Articles.{numbers, paragraph, quote, span, strong, words}
 
 -- the options that matter here
@@ -131,11 +130,11 @@ parts_of o d ts (line_break rest) = breaks d ∷ parts_of o d ts rest
 parts_of o d ts (span style kids rest) = says (mark_of o style) (within d)
     ∷ (parts_of o (within d) ts kids ++ says (mark_of o style) (within d)
     ∷ parts_of o d (ts ++ targets_in o kids) rest)
-parts_of o d ts (link target kids rest) = let behind = ts ++ target ∷ targets_in o kids in
+parts_of o d ts (link target kids rest) = let trailing = ts ++ target ∷ targets_in o kids in
     unless_shallow (all_shallow o kids) (says (codes "[") (within d)
     ∷ (parts_of o (within d) (ts ++ target ∷ []) kids
-    ++ says (codes "]") (within d) ∷ says (number_mark o behind) d ∷ []))
-    ++ parts_of o d (if all_shallow o kids then ts else behind) rest
+    ++ says (codes "]") (within d) ∷ says (number_mark o trailing) d ∷ []))
+    ++ parts_of o d (if all_shallow o kids then ts else trailing) rest
 
 -- what is said between two breaks, or up to the end: the annotations under which it begins, by an empty text too, and
 -- those under which it ends
@@ -265,8 +264,8 @@ has_content lines = list_any (λ l. l.content) lines
 abbrev pub parted : Options → ℕ → List Line → List Line
 parted o width lines = if has_content lines then lines ++ empty_line o width outermost None ∷ [] else lines
 
-abbrev pub behind : Options → ℕ → List ℕ → Line → Line
-behind o width prefix l = record {
+abbrev pub trailing : Options → ℕ → List ℕ → Line → Line
+trailing o width prefix l = record {
   items = filled o width outermost (tagged prefix outermost ++ l.items);
   content = l.content || is_filled prefix;
   number = l.number;
@@ -275,7 +274,7 @@ behind o width prefix l = record {
 -- the first line after one prefix, the others after another
 abbrev pub prefixed : Options → ℕ → List ℕ → List ℕ → List Line → List Line
 prefixed o width first following [] = []
-prefixed o width first following (l ∷ lines) = behind o width first l ∷ map (behind o width following) lines
+prefixed o width first following (l ∷ lines) = trailing o width first l ∷ map (trailing o width following) lines
 
 abbrev pub to_room : ℕ → List ℕ → List ℕ
 to_room n cs = cs ++ spaces (n - length cs)

@@ -1,13 +1,13 @@
 //! Laws of the layout of articles.
-ghost use Rattle.std.specs.Prelude.{◌≡◌, ◌≤◌, ◌++◌, ℕ, List, [], map, None, Some, option_map, filter, flat_map};
-ghost use Rattle.std.specs.Prelude.{option_and_then};
+ghost use Rattle.std.specs.Prelude.{◌≡◌, ◌≤◌, ◌++◌, [], List, None, Some, filter, flat_map, map, option_and_then};
+ghost use Rattle.std.specs.Prelude.{option_map, ℕ};
 ghost use Rattle.article_values.specs.Articles.{Blocks, Inlines};
 ghost use Rattle.article_definitions.specs.BlockCalls.{noted, run_blocks, run_notes};
 ghost use Rattle.article_definitions.specs.Calls.{block_with, cell_of, measure, run_whole};
 ghost use Rattle.article_definitions.specs.Exchanges.{Differ, others};
 ghost use Rattle.article_definitions.specs.Layouts.{Line, Options, Stretch, Tag, article_lines, lay, layout, notes};
-ghost use Rattle.article_definitions.specs.Layouts.{outermost, paragraph_lines};
-ghost use Rattle.article_definitions.specs.Layouts.{parts_of, stretch_lines, targets_of, wrap_at};
+ghost use Rattle.article_definitions.specs.Layouts.{outermost, paragraph_lines, parts_of, stretch_lines, targets_of};
+ghost use Rattle.article_definitions.specs.Layouts.{wrap_at};
 ghost use Rattle.article_definitions.specs.Paragraphs.{AreParagraphs};
 ghost use Rattle.article_definitions.specs.Showing.{is_visible, visible_of};
 ghost use Rattle.block_layout.specs.Laid.{Laid, flush, nothing_laid};

@@ -1,6 +1,6 @@
 -- Inlines, one after another, and whether there are any.
-use Rattle.std.proofs.Common.{◌≡◌, ℕ, suc, ◌==◌, false, List, [], ◌∷◌, length, max, refl, sym, ◌∙◌, subst, ne_eqb}
-use Rattle.std.proofs.Common.{arith}
+use Rattle.std.proofs.Common.{◌≡◌, ◌==◌, [], ◌∷◌, ◌∙◌, List, arith, false, length, max, ne_eqb, refl, subst, suc, sym}
+use Rattle.std.proofs.Common.{ℕ}
 use Rattle.article_definitions.specs.Layouts.{has_none}
 use Rattle.article_values.specs.Articles.{Inlines}
 use Rattle.article_values.specs.Views.{inline_step, inline_view, inlines_view}

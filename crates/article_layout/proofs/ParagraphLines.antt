@@ -1,12 +1,12 @@
 -- The lines of a paragraph, by what was said of it.
-use Rattle.std.proofs.Common.{◌≡◌, ℕ, Bool, true, false, List, [], ◌∷◌, ◌++◌, map, Option, None, Some}
-use Rattle.std.proofs.Common.{if◌then◌else◌, refl, sym, ap, ◌∙◌}
+use Rattle.std.proofs.Common.{◌≡◌, [], ◌∷◌, ◌++◌, if◌then◌else◌, ◌∙◌, Bool, List, None, Option, Some, ap, false, map}
+use Rattle.std.proofs.Common.{refl, sym, true, ℕ}
 use Rattle.std.specs.Option.{option_and_then, option_map}
 use Rattle.std.proofs.lemmas.Option.{none-some, same_Some}
 use Rattle.article_definitions.specs.Calls.{block_with, cell_of, measure, run, run_whole}
-use Rattle.article_definitions.specs.Layouts.{Line, Options, Part, Stretch, Tag, all_fit, break_lines, empty_line, if_fits}
-use Rattle.article_definitions.specs.Layouts.{line_of, lines_of_stretches, outermost, paragraph_lines, parts_of}
-use Rattle.article_definitions.specs.Layouts.{stretch_lines, stretches, targets_in}
+use Rattle.article_definitions.specs.Layouts.{Line, Options, Part, Stretch, Tag, all_fit, break_lines, empty_line}
+use Rattle.article_definitions.specs.Layouts.{if_fits, line_of, lines_of_stretches, outermost, paragraph_lines}
+use Rattle.article_definitions.specs.Layouts.{parts_of, stretch_lines, stretches, targets_in}
 use Rattle.article_layout.specs.Seen.{of_paragraph}
 use Rattle.article_layout.specs.Walks.{Said, said}
 use Rattle.article_layout.proofs.SaidRuns.{said_is}
@@ -80,25 +80,25 @@ module _ (o : Options) (width k : ℕ) where
     abbrev Calls : Type 0
     Calls = run_whole (measure o width) parts nothing_laid ≡ option_map as_block found
 
-    abbrev behind : Option (Laid Tag) → Option Said
-    behind x = option_map (λ b. record { laid = b; targets = ts ++ targets_in o is }) x
+    abbrev trailing : Option (Laid Tag) → Option Said
+    trailing x = option_map (λ b. record { laid = b; targets = ts ++ targets_in o is }) x
 
     ran : (tag : Tag) (b : Laid Tag) (x : Option Said) → tag ≡ [] → b ≡ nothing_laid →
         said o (measure o width) tag is (record { laid = b; targets = ts }) ≡ x →
-        behind (run (measure o width) parts nothing_laid) ≡ x
+        trailing (run (measure o width) parts nothing_laid) ≡ x
     ran tag b x e f h = sym (said_is (measure o width) o is [] ts nothing_laid)
         ∙ ap (λ t. said o (measure o width) t is (record { laid = nothing_laid; targets = ts })) (sym e)
         ∙ ap (λ b. said o (measure o width) tag is (record { laid = b; targets = ts })) (sym f) ∙ h
 
-    not_ran : (x : Option (Laid Tag)) → behind x ≡ None → x ≡ None
+    not_ran : (x : Option (Laid Tag)) → trailing x ≡ None → x ≡ None
     not_ran None h = refl
     not_ran (Some b) h = absurd (none-some _ (sym h))
 
-    was_ran : (x : Option (Laid Tag)) (s : Said) → behind x ≡ Some s → x ≡ Some s.laid
+    was_ran : (x : Option (Laid Tag)) (s : Said) → trailing x ≡ Some s → x ≡ Some s.laid
     was_ran None s h = absurd (none-some s h)
     was_ran (Some b) s h = ap Some (ap (λ (t : Said). t.laid) (same_Some _ s h))
 
-    targets_then : (x : Option (Laid Tag)) (s : Said) → behind x ≡ Some s → s.targets ≡ ts ++ targets_in o is
+    targets_then : (x : Option (Laid Tag)) (s : Said) → trailing x ≡ Some s → s.targets ≡ ts ++ targets_in o is
     targets_then None s h = absurd (none-some s h)
     targets_then (Some b) s h = sym (ap (λ (t : Said). t.targets) (same_Some _ s h))
 

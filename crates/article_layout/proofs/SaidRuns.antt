@@ -1,10 +1,10 @@
 -- What is said of a paragraph is what its parts say, one after another.
-use Rattle.std.proofs.Common.{◌≡◌, ℕ, Bool, true, false, List, [], ◌∷◌, ◌++◌, Option, None, Some}
-use Rattle.std.proofs.Common.{codes, if◌then◌else◌, refl, sym, ap, ◌∙◌, append_assoc, append-nil}
+use Rattle.std.proofs.Common.{◌≡◌, [], ◌∷◌, ◌++◌, if◌then◌else◌, ◌∙◌, Bool, List, None, Option, Some, ap, append-nil}
+use Rattle.std.proofs.Common.{append_assoc, codes, false, refl, sym, true, ℕ}
 use Rattle.std.specs.Option.{option_and_then, option_map}
 use Rattle.article_definitions.specs.Calls.{run}
-use Rattle.article_definitions.specs.Layouts.{Options, Part, Tag, all_shallow, breaks, mark_of, number_mark, parts_of, says}
-use Rattle.article_definitions.specs.Layouts.{targets_in, unless_shallow, within}
+use Rattle.article_definitions.specs.Layouts.{Options, Part, Tag, all_shallow, breaks, mark_of, number_mark, parts_of}
+use Rattle.article_definitions.specs.Layouts.{says, targets_in, unless_shallow, within}
 use Rattle.article_layout.specs.Walks.{Said, adds, linked, numbered, said}
 use Rattle.article_values.specs.Articles.{Inlines, Style, line_break, link, no_inlines, span, words}
 use Rattle.block_layout.specs.Laid.{Laid, add_text, break_line}
@@ -40,18 +40,18 @@ module _ (m : Measure) where
   abbrev at : List (List ℕ) → Laid Tag → Said
   at ts b = record { laid = b; targets = ts }
 
-  abbrev behind : List (List ℕ) → Option (Laid Tag) → Option Said
-  behind ts x = option_map (at ts) x
+  abbrev trailing : List (List ℕ) → Option (Laid Tag) → Option Said
+  trailing ts x = option_map (at ts) x
 
   carried : (f : Said → Option Said) (g : Laid Tag → Option (Laid Tag)) (ts us : List (List ℕ)) (x : Option (Laid Tag))
       →
-      ((b : Laid Tag) → f (at ts b) ≡ behind us (g b)) →
-      option_and_then f (behind ts x) ≡ behind us (option_and_then g x)
+      ((b : Laid Tag) → f (at ts b) ≡ trailing us (g b)) →
+      option_and_then f (trailing ts x) ≡ trailing us (option_and_then g x)
   carried f g ts us None same = refl
   carried f g ts us (Some b) same = same b
 
   added : (cs : List ℕ) (tag : Tag) (ts : List (List ℕ)) (x : Option (Laid Tag)) →
-      option_and_then (adds m cs tag) (behind ts x) ≡ behind ts (option_and_then (adding cs tag) x)
+      option_and_then (adds m cs tag) (trailing ts x) ≡ trailing ts (option_and_then (adding cs tag) x)
   added cs tag ts x = carried (adds m cs tag) (adding cs tag) ts ts x (λ b. refl)
 
   -- a part between others
@@ -68,14 +68,14 @@ module _ (m : Measure) where
 
     abbrev Is : Inlines → Type 0
     Is is = (tag : Tag) (ts : List (List ℕ)) (b : Laid Tag) →
-        said o m tag is (at ts b) ≡ behind (ts ++ targets_in o is) (run m (parts tag ts is) b)
+        said o m tag is (at ts b) ≡ trailing (ts ++ targets_in o is) (run m (parts tag ts is) b)
 
     -- after what was said before
     further : (is : Inlines) → Is is → (tag : Tag) (us vs : List (List ℕ)) (x : Option (Laid Tag)) →
-        us ++ targets_in o is ≡ vs → option_and_then (said o m tag is) (behind us x)
-        ≡ behind vs (option_and_then (run m (parts tag us is)) x)
+        us ++ targets_in o is ≡ vs → option_and_then (said o m tag is) (trailing us x)
+        ≡ trailing vs (option_and_then (run m (parts tag us is)) x)
     further is same tag us vs x e = carried (said o m tag is) (run m (parts tag us is)) us vs x
-        (λ b. same tag us b ∙ ap (λ t. behind t (run m (parts tag us is) b)) e)
+        (λ b. same tag us b ∙ ap (λ t. trailing t (run m (parts tag us is) b)) e)
 
     spanned_is : (style : Style) (kids rest : Inlines) → Is kids → Is rest → Is (span style kids rest)
     spanned_is style kids rest inside on tag ts b =
@@ -91,12 +91,12 @@ module _ (m : Measure) where
         ∙ further rest on tag us (ts ++ (targets_in o kids ++ targets_in o rest))
         (option_and_then (adding mark d) (option_and_then (run m k) x))
         (append_assoc ts (targets_in o kids) (targets_in o rest))
-        ∙ ap (behind (ts ++ (targets_in o kids ++ targets_in o rest))) (between k r mark d x)
+        ∙ ap (trailing (ts ++ (targets_in o kids ++ targets_in o rest))) (between k r mark d x)
 
     link_is : (target : List ℕ) (kids rest : Inlines) → Is kids → Is rest → (tag : Tag) (ts : List (List ℕ))
         (b : Laid Tag) (shallow : Bool) →
         option_and_then (said o m tag rest) (linked shallow o m tag target (said o m (within tag) kids) (at ts b))
-        ≡ behind (ts ++ (unless_shallow shallow (target ∷ targets_in o kids) ++ targets_in o rest))
+        ≡ trailing (ts ++ (unless_shallow shallow (target ∷ targets_in o kids) ++ targets_in o rest))
         (run m (unless_shallow shallow (says (codes "[") (within tag)
         ∷ (parts (within tag) (ts ++ target ∷ []) kids ++ says (codes "]") (within tag)
         ∷ says (number_mark o (ts ++ target ∷ targets_in o kids)) tag ∷ []))
@@ -119,11 +119,11 @@ module _ (m : Measure) where
         (option_and_then (adds m (codes "]") d) y))) (further kids inside d one us x refl)
         ∙ ap (λ y. option_and_then (said o m tag rest) (option_and_then (numbered o m tag) y))
         (added (codes "]") d us y)
-        ∙ ap (λ t. option_and_then (said o m tag rest) (option_and_then (numbered o m tag) (behind t z))) same
+        ∙ ap (λ t. option_and_then (said o m tag rest) (option_and_then (numbered o m tag) (trailing t z))) same
         ∙ ap (option_and_then (said o m tag rest)) (carried (numbered o m tag) (adding mark tag) all all z (λ b. refl))
         ∙ further rest on tag all vs (option_and_then (adding mark tag) z)
         (append_assoc ts (target ∷ targets_in o kids) (targets_in o rest))
-        ∙ ap (λ w. behind vs w) (sym (chained (adding mark tag) (run m r) z)
+        ∙ ap (λ w. trailing vs w) (sym (chained (adding mark tag) (run m r) z)
         ∙ between k (says mark tag ∷ r) (codes "]") d x
         ∙ ap (λ ps. option_and_then (run m ps) x)
         (sym (append_assoc k (says (codes "]") d ∷ says mark tag ∷ []) r)))

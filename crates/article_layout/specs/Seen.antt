@@ -2,7 +2,7 @@
 use Rattle.std.specs.Prelude.{ℕ, List, Option, Some, Vec, filter, map, not}
 use Rattle.article_layout.specs.declared.layout.ArticleLine.{ArticleLine}
 use Rattle.article_layout.specs.declared.line_list.LineList.{LineList}
-use Rattle.article_layout.specs.declared.paragraphs.Behind.{Behind}
+use Rattle.article_layout.specs.declared.paragraphs.After.{After}
 use Rattle.article_layout.specs.Lines.{line_of, tag_of}
 use Rattle.article_layout.specs.Walks.{At, Said}
 use Rattle.article_definitions.specs.Exchanges.{is_number}
@@ -28,24 +28,24 @@ abbrev pub of_paragraph : ℕ → CellLine Tag → Line
 of_paragraph k l = record { items = line_shown l.line; content = l.content; number = Some k }
 
 -- lines, with what came so far
-abbrev pub at_of : LineList → Behind → At
-at_of lines behind = record {
+abbrev pub at_of : LineList → After → At
+at_of lines trailing = record {
   lines = lines_of lines;
-  paragraphs = behind.paragraphs;
-  targets = all_targets behind.targets;
+  paragraphs = trailing.paragraphs;
+  targets = all_targets trailing.targets;
 }
 
 -- a line that is emitted
-pub record Told : Type 0 where
+pub record Emitted : Type 0 where
   pub items : List (Item Tag)
   pub paragraph : Option ℕ
 
-abbrev pub told_of : ArticleLine → Told
-told_of l = record { items = line_items tag_of l.line; paragraph = l.paragraph }
+abbrev pub emitted_of : ArticleLine → Emitted
+emitted_of l = record { items = line_items tag_of l.line; paragraph = l.paragraph }
 
-abbrev pub told : Line → Told
-told l = record { items = l.items; paragraph = l.number }
+abbrev pub emitted : Line → Emitted
+emitted l = record { items = l.items; paragraph = l.number }
 
 -- the lines that are emitted and are not of a paragraph
-abbrev pub others_told : ℕ → List Told → List Told
-others_told n lines = filter (λ l. not (is_number n l.paragraph)) lines
+abbrev pub others_emitted : ℕ → List Emitted → List Emitted
+others_emitted n lines = filter (λ l. not (is_number n l.paragraph)) lines

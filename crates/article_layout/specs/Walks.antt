@@ -1,7 +1,7 @@
 -- What a walk over an article makes of what it laid out before: the targets of links so far and the paragraphs so far
 -- are kept beside the lines, where the layout counts them.
-use Rattle.std.specs.Prelude.{ℕ, ℤ, suc, ◌+◌, Bool, List, [], ◌∷◌, ◌++◌, ◌&&◌, replicate, codes, Option, None}
-use Rattle.std.specs.Prelude.{Some, if◌then◌else◌}
+use Rattle.std.specs.Prelude.{◌+◌, [], ◌∷◌, ◌++◌, ◌&&◌, if◌then◌else◌, Bool, List, None, Option, Some, codes, replicate}
+use Rattle.std.specs.Prelude.{suc, ℕ, ℤ}
 use Rattle.std.specs.Option.{option_map, option_and_then}
 use Rattle.article_definitions.specs.Layouts.{Line, Options, Tag, all_shallow, how_many, item_prefix, least_in}
 use Rattle.article_definitions.specs.Layouts.{least_of, least_of_items, mark_of, next_number, notes, number_mark}
@@ -71,8 +71,8 @@ pub record At : Type 0 where
 abbrev pub parted_at : Options → ℕ → At → At
 parted_at o width s = record s { lines = parted o width s.lines }
 
-abbrev pub behind_paragraph : Options → Inlines → At → List Line → At
-behind_paragraph o is s lines = record {
+abbrev pub after_paragraph : Options → Inlines → At → List Line → At
+after_paragraph o is s lines = record {
   lines = lines;
   paragraphs = suc s.paragraphs;
   targets = s.targets ++ targets_in o is;
@@ -83,7 +83,7 @@ own_lines o width is s = paragraph_lines o width s.paragraphs s.targets is
 
 abbrev pub with_paragraph : Options → ℕ → Inlines → At → Option At
 with_paragraph o width is s =
-    option_map (λ new. behind_paragraph o is s (parted o width s.lines ++ new)) (own_lines o width is s)
+    option_map (λ new. after_paragraph o is s (parted o width s.lines ++ new)) (own_lines o width is s)
 
 abbrev pub heading_prefix : ℕ → List ℕ
 heading_prefix level = replicate level 0x23 ++ codes " "
@@ -93,26 +93,26 @@ heading_lines o width level is s = option_and_then (λ within. own_lines o withi
     (room width (level + 1) (capped (least_in o is + (level + 1))))
 
 abbrev pub with_heading : Options → ℕ → ℕ → Inlines → At → Option At
-with_heading o width level is s = option_map (λ new. behind_paragraph o is s (parted o width s.lines
+with_heading o width level is s = option_map (λ new. after_paragraph o is s (parted o width s.lines
     ++ prefixed o width (heading_prefix level) (heading_prefix level) new)) (heading_lines o width level is s)
 
 -- an item's lines after its prefix
-abbrev pub behind_item : Options → ℕ → ℕ → Option ℤ → At → At → At
-behind_item o width columns at s inner =
+abbrev pub after_item : Options → ℕ → ℕ → Option ℤ → At → At → At
+after_item o width columns at s inner =
     record inner { lines = s.lines ++ prefixed o width (to_room columns (item_prefix at)) (spaces columns) inner.lines }
 
 abbrev pub with_item : Options → (width columns least : ℕ) → Option ℤ → (ℕ → At → Option At) → At → Option At
-with_item o width columns least at inside s = option_map (behind_item o width columns at s)
+with_item o width columns least at inside s = option_map (after_item o width columns at s)
     (option_and_then (λ within. inside within (record s { lines = [] })) (room width columns least))
 
 -- a quote's lines after its prefix
-abbrev pub behind_quote : Options → ℕ → At → At → At
-behind_quote o width s inner = record inner {
+abbrev pub after_quote : Options → ℕ → At → At → At
+after_quote o width s inner = record inner {
   lines = parted o width s.lines ++ prefixed o width quote_prefix quote_prefix inner.lines;
 }
 
 abbrev pub with_quote : Options → (width least : ℕ) → (ℕ → At → Option At) → At → Option At
-with_quote o width least inside s = option_map (behind_quote o width s)
+with_quote o width least inside s = option_map (after_quote o width s)
     (option_and_then (λ within. inside within (record s { lines = [] })) (room width 2 least))
 
 abbrev mutual

@@ -4,8 +4,8 @@
 ghost use Rattle.std.specs.Prelude.{◌≡◌, ◌+◌, Some, None, Err, OnOk};
 ghost use Rattle.article_layout.specs.Seen.{at_of};
 ghost use Rattle.article_layout.specs.Settings.{options_of};
-ghost use Rattle.article_layout.specs.Walks.{laid, laid_items, parted_at, with_heading, with_item};
-ghost use Rattle.article_layout.specs.Walks.{with_paragraph, with_quote};
+ghost use Rattle.article_layout.specs.Walks.{laid, laid_items, parted_at, with_heading, with_item, with_paragraph};
+ghost use Rattle.article_layout.specs.Walks.{with_quote};
 ghost use Rattle.article_definitions.specs.Layouts.{least_of, least_of_items};
 ghost use Rattle.article_values.specs.Articles.{Blocks as SeenBlocks};
 ghost use Rattle.article_values.specs.Views.{block_view, blocks_view, inlines_view, items_view};
@@ -15,7 +15,7 @@ ghost use Rattle.text_pieces.specs.declared.fault.BlockError.TheVariants as erro
 use crate::leasts::{heading_columns, least_in, least_of, least_of_items};
 use crate::line_list::LineList;
 use crate::options::Room;
-use crate::paragraphs::{Behind, paragraph_lines};
+use crate::paragraphs::{After, paragraph_lines};
 use crate::prefixes::{filled_prefix, heading_prefix, next_number, room_of_numbers};
 use article_values::{Block, Inline};
 use layout_state::spaces;
@@ -29,16 +29,16 @@ pub(crate) fn lay_blocks(
     room: Room,
     blocks: &[Block],
     lines: &mut LineList,
-    behind: &mut Behind,
+    trailing: &mut After,
 ) -> Result<(), BlockError>
     ensures done { OnOk result (laid (options_of room.options) room.width (blocks_view blocks.now)
-        (at_of lines.old behind.old) ≡ Some (at_of lines.new behind.new)) }
+        (at_of lines.old trailing.old) ≡ Some (at_of lines.new trailing.new)) }
     ensures narrow { result ≡ Err errors.TooNarrow → laid (options_of room.options) room.width
-        (blocks_view blocks.now) (at_of lines.old behind.old) ≡ None }
+        (blocks_view blocks.now) (at_of lines.old trailing.old) ≡ None }
     ensures failed { result ≡ Err errors.Failed → ⊥ }
 {
     'blocks: for block in blocks {
-        lay_block(alloc, room, block, lines, behind)?;
+        lay_block(alloc, room, block, lines, trailing)?;
     }
     Ok(())
 }
@@ -49,25 +49,27 @@ fn lay_block(
     room: Room,
     block: &Block,
     lines: &mut LineList,
-    behind: &mut Behind,
+    trailing: &mut After,
 ) -> Result<(), BlockError>
     ensures done { OnOk result ((rest : SeenBlocks) → laid (options_of room.options) room.width
-        (block_view block.now rest) (at_of lines.old behind.old)
-        ≡ laid (options_of room.options) room.width rest (at_of lines.new behind.new)) }
+        (block_view block.now rest) (at_of lines.old trailing.old)
+        ≡ laid (options_of room.options) room.width rest (at_of lines.new trailing.new)) }
     ensures narrow { result ≡ Err errors.TooNarrow → (rest : SeenBlocks) → laid (options_of room.options) room.width
-        (block_view block.now rest) (at_of lines.old behind.old) ≡ None }
+        (block_view block.now rest) (at_of lines.old trailing.old) ≡ None }
     ensures failed { result ≡ Err errors.Failed → ⊥ }
 {
     match block {
         Block::Paragraph(contents) => {
-            lay_paragraph(alloc, room, contents.as_slice(), lines, behind)
+            lay_paragraph(alloc, room, contents.as_slice(), lines, trailing)
         }
         Block::Heading(level, contents) => {
-            lay_heading(alloc, room, *level, contents.as_slice(), lines, behind)
+            lay_heading(alloc, room, *level, contents.as_slice(), lines, trailing)
         }
-        Block::Division(blocks) => lay_blocks(alloc, room, blocks.as_slice(), lines, behind),
-        Block::Quote(blocks) => lay_quote(alloc, room, blocks.as_slice(), lines, behind),
-        Block::Bullets(items) => { lay_list(alloc, room, None, 2, items.as_slice(), lines, behind) }
+        Block::Division(blocks) => lay_blocks(alloc, room, blocks.as_slice(), lines, trailing),
+        Block::Quote(blocks) => lay_quote(alloc, room, blocks.as_slice(), lines, trailing),
+        Block::Bullets(items) => {
+            lay_list(alloc, room, None, 2, items.as_slice(), lines, trailing)
+        }
         Block::Numbers(first, items) => {
             let columns = room_of_numbers(alloc, *first, items.len())?;
             lay_list(
@@ -77,7 +79,7 @@ fn lay_block(
                 columns,
                 items.as_slice(),
                 lines,
-                behind,
+                trailing,
             )
         }
     }
@@ -89,16 +91,16 @@ fn lay_paragraph(
     room: Room,
     contents: &[Inline],
     lines: &mut LineList,
-    behind: &mut Behind,
+    trailing: &mut After,
 ) -> Result<(), BlockError>
     ensures done { OnOk result (with_paragraph (options_of room.options) room.width (inlines_view contents.now)
-        (at_of lines.old behind.old) ≡ Some (at_of lines.new behind.new)) }
+        (at_of lines.old trailing.old) ≡ Some (at_of lines.new trailing.new)) }
     ensures narrow { result ≡ Err errors.TooNarrow → with_paragraph (options_of room.options) room.width
-        (inlines_view contents.now) (at_of lines.old behind.old) ≡ None }
+        (inlines_view contents.now) (at_of lines.old trailing.old) ≡ None }
     ensures failed { result ≡ Err errors.Failed → ⊥ }
 {
     lines.part(alloc, room)?;
-    let own = paragraph_lines(alloc, room, contents, behind)?;
+    let own = paragraph_lines(alloc, room, contents, trailing)?;
     lines.append(own)?;
     Ok(())
 }
@@ -110,21 +112,21 @@ fn lay_heading(
     level: u8,
     contents: &[Inline],
     lines: &mut LineList,
-    behind: &mut Behind,
+    trailing: &mut After,
 ) -> Result<(), BlockError>
     ensures done { OnOk result (with_heading (options_of room.options) room.width level (inlines_view contents.now)
-        (at_of lines.old behind.old) ≡ Some (at_of lines.new behind.new)) }
+        (at_of lines.old trailing.old) ≡ Some (at_of lines.new trailing.new)) }
     ensures narrow { result ≡ Err errors.TooNarrow → with_heading (options_of room.options) room.width level
-        (inlines_view contents.now) (at_of lines.old behind.old) ≡ None }
+        (inlines_view contents.now) (at_of lines.old trailing.old) ≡ None }
     ensures failed { result ≡ Err errors.Failed → ⊥ }
 {
     lines.part(alloc, room)?;
     let columns = heading_columns(level);
     let least = least_in(room.options, contents).saturating_add(columns);
-    let within = room.behind(columns, least)?;
-    let own = paragraph_lines(alloc, within, contents, behind)?;
+    let within = room.trailing(columns, least)?;
+    let own = paragraph_lines(alloc, within, contents, trailing)?;
     let prefix = heading_prefix(alloc, level)?;
-    lines.append_behind(alloc, room, prefix.as_str(), prefix.as_str(), own)?;
+    lines.append_after(alloc, room, prefix.as_str(), prefix.as_str(), own)?;
     Ok(())
 }
 
@@ -135,24 +137,24 @@ fn lay_quote(
     room: Room,
     blocks: &[Block],
     lines: &mut LineList,
-    behind: &mut Behind,
+    trailing: &mut After,
 ) -> Result<(), BlockError>
     ensures done { OnOk result (with_quote (options_of room.options) room.width
         (capped (least_of (options_of room.options) (blocks_view blocks.now) + 2))
-        (λ within. laid (options_of room.options) within (blocks_view blocks.now)) (at_of lines.old behind.old)
-        ≡ Some (at_of lines.new behind.new)) }
+        (λ within. laid (options_of room.options) within (blocks_view blocks.now)) (at_of lines.old trailing.old)
+        ≡ Some (at_of lines.new trailing.new)) }
     ensures narrow { result ≡ Err errors.TooNarrow → with_quote (options_of room.options) room.width
         (capped (least_of (options_of room.options) (blocks_view blocks.now) + 2))
-        (λ within. laid (options_of room.options) within (blocks_view blocks.now)) (at_of lines.old behind.old)
+        (λ within. laid (options_of room.options) within (blocks_view blocks.now)) (at_of lines.old trailing.old)
         ≡ None }
     ensures failed { result ≡ Err errors.Failed → ⊥ }
 {
     lines.part(alloc, room)?;
     let least = least_of(alloc, room.options, blocks)?.saturating_add(2);
-    let within = room.behind(2, least)?;
+    let within = room.trailing(2, least)?;
     let mut own = LineList::new(alloc);
-    lay_blocks(alloc, within, blocks, &mut own, behind)?;
-    lines.append_behind(alloc, room, "> ", "> ", own.into_lines())?;
+    lay_blocks(alloc, within, blocks, &mut own, trailing)?;
+    lines.append_after(alloc, room, "> ", "> ", own.into_lines())?;
     Ok(())
 }
 
@@ -165,15 +167,15 @@ fn lay_list(
     columns: usize,
     items: &[Vec<Block>],
     lines: &mut LineList,
-    behind: &mut Behind,
+    trailing: &mut After,
 ) -> Result<(), BlockError>
     ensures done { OnOk result (laid_items (options_of room.options) room.width columns
         (capped (least_of_items (options_of room.options) (items_view items.now) + columns)) first
-        (items_view items.now) (parted_at (options_of room.options) room.width (at_of lines.old behind.old))
-        ≡ Some (at_of lines.new behind.new)) }
+        (items_view items.now) (parted_at (options_of room.options) room.width (at_of lines.old trailing.old))
+        ≡ Some (at_of lines.new trailing.new)) }
     ensures narrow { result ≡ Err errors.TooNarrow → laid_items (options_of room.options) room.width columns
         (capped (least_of_items (options_of room.options) (items_view items.now) + columns)) first
-        (items_view items.now) (parted_at (options_of room.options) room.width (at_of lines.old behind.old)) ≡ None }
+        (items_view items.now) (parted_at (options_of room.options) room.width (at_of lines.old trailing.old)) ≡ None }
     ensures failed { result ≡ Err errors.Failed → ⊥ }
 {
     lines.part(alloc, room)?;
@@ -188,7 +190,7 @@ fn lay_list(
             least,
             item.as_slice(),
             lines,
-            behind,
+            trailing,
         )?;
         number = next_number(number);
     }
@@ -205,22 +207,22 @@ fn lay_item(
     least: usize,
     item: &[Block],
     lines: &mut LineList,
-    behind: &mut Behind,
+    trailing: &mut After,
 ) -> Result<(), BlockError>
     ensures done { OnOk result (with_item (options_of room.options) room.width columns least number
-        (λ within. laid (options_of room.options) within (blocks_view item.now)) (at_of lines.old behind.old)
-        ≡ Some (at_of lines.new behind.new)) }
+        (λ within. laid (options_of room.options) within (blocks_view item.now)) (at_of lines.old trailing.old)
+        ≡ Some (at_of lines.new trailing.new)) }
     ensures narrow { result ≡ Err errors.TooNarrow → with_item (options_of room.options) room.width columns least
-        number (λ within. laid (options_of room.options) within (blocks_view item.now)) (at_of lines.old behind.old)
+        number (λ within. laid (options_of room.options) within (blocks_view item.now)) (at_of lines.old trailing.old)
         ≡ None }
     ensures failed { result ≡ Err errors.Failed → ⊥ }
 {
-    let within = room.behind(columns, least)?;
+    let within = room.trailing(columns, least)?;
     let mut own = LineList::new(alloc);
-    lay_blocks(alloc, within, item, &mut own, behind)?;
+    lay_blocks(alloc, within, item, &mut own, trailing)?;
     let first = filled_prefix(alloc, number, columns)?;
     let following = spaces(alloc, columns)?;
-    lines.append_behind(
+    lines.append_after(
         alloc,
         room,
         first.as_str(),

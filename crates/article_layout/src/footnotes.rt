@@ -13,8 +13,8 @@ ghost use Rattle.text_pieces.specs.Sources.{names};
 
 use crate::line_list::{Line, LineList, fill};
 use crate::options::Room;
-use text_footnotes::{LinkTargets, footnote_lines, links_share_footnotes};
 use std::alloc::{AllocError, Global};
+use text_footnotes::{LinkTargets, footnote_lines, links_share_footnotes};
 use text_lines::TaggedLine;
 use text_pieces::has_text;
 

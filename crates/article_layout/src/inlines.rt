@@ -1,8 +1,8 @@
 //! The text of a paragraph, said to a block of lines.
 //!
 //! The calls go as deep as an article is nested, which is 256 at most.
-ghost use Rattle.std.specs.Prelude.{◌≡◌, [], ◌++◌, codes, chars, ◌&&◌, if◌then◌else◌, string_bytes, Some, None, Err};
-ghost use Rattle.std.specs.Prelude.{IfOk, OnOk};
+ghost use Rattle.std.specs.Prelude.{◌≡◌, [], ◌++◌, ◌&&◌, if◌then◌else◌, Err, IfOk, None, OnOk, Some, chars, codes};
+ghost use Rattle.std.specs.Prelude.{string_bytes};
 ghost use Rattle.article_layout.specs.Lines.{tag_of};
 ghost use Rattle.article_layout.specs.Seen.{said_of};
 ghost use Rattle.article_layout.specs.Settings.{options_of};
@@ -18,9 +18,9 @@ ghost use Rattle.text_pieces.specs.declared.fault.BlockError.TheVariants as erro
 use crate::options::{LineOptions, Room};
 use article_values::Inline;
 use block_layout::BlockLayout;
-use text_footnotes::LinkTargets;
 use render_values::is_white_space;
 use std::alloc::{AllocError, Global};
+use text_footnotes::LinkTargets;
 use text_lines::EqualCopy;
 use text_pieces::{BlockError, WhiteSpace};
 

@@ -1,12 +1,13 @@
 //! The lines of an article.
-ghost use Rattle.std.specs.Prelude.{◌≡◌, ◌≢◌, ◌≤◌, ℕ, false, List, filter, flat_map, length, map, Some, None, Err};
-ghost use Rattle.std.specs.Prelude.{IfOk};
+ghost use Rattle.std.specs.Prelude.{◌≡◌, ◌≢◌, ◌≤◌, Err, IfOk, List, None, Some, false, filter, flat_map, length, map};
+ghost use Rattle.std.specs.Prelude.{ℕ};
 ghost use Rattle.std.specs.Option.{option_map};
 ghost use Rattle.article_layout.specs.Lines.{line_of};
-ghost use Rattle.article_layout.specs.Seen.{others_told, told, told_of};
+ghost use Rattle.article_layout.specs.Seen.{others_emitted, emitted, emitted_of};
 ghost use Rattle.article_layout.specs.Settings.{options_of};
 ghost use Rattle.article_definitions.specs.Exchanges.{Differ, others};
-ghost use Rattle.article_definitions.specs.Layouts.{Line as SeenLine, Stretch, Tag, article_lines, stretch_lines, wrap_at};
+ghost use Rattle.article_definitions.specs.Layouts.{Line as SeenLine, Stretch, Tag, article_lines, stretch_lines};
+ghost use Rattle.article_definitions.specs.Layouts.{wrap_at};
 ghost use Rattle.article_definitions.specs.Paragraphs.{AreParagraphs};
 ghost use Rattle.article_definitions.specs.Showing.{is_visible, visible_of};
 ghost use Rattle.article_values.specs.Articles.{Blocks as SeenBlocks};
@@ -20,14 +21,14 @@ use crate::blocks::lay_blocks;
 use crate::footnotes::add_footnotes;
 use crate::line_list::{Line, LineList};
 use crate::options::{LineOptions, Room};
-use crate::paragraphs::Behind;
+use crate::paragraphs::After;
 use article_definitions::{exchange, paragraphs_are_never_refused, visible_characters_once};
 use article_values::Block;
-use text_footnotes::LinkTargets;
 use std::alloc::{AllocError, Global};
+use text_footnotes::LinkTargets;
 use text_lines::TaggedLine;
-use text_pieces::BlockError;
 use text_normal_laws::{fewest_lines, normal_lines_are_fullest};
+use text_pieces::BlockError;
 
 /// A line of an article that is laid out.
 #[derive(Drop)]
@@ -53,8 +54,8 @@ pub fn lay_article(
     options: LineOptions,
     width: usize,
 ) -> Result<Vec<ArticleLine>, BlockError>
-    ensures lines { IfOk result (λ lines. option_map (map told)
-        (article_lines (options_of options) width (blocks_view blocks.now)) ≡ Some (map told_of lines.items)) }
+    ensures lines { IfOk result (λ lines. option_map (map emitted)
+        (article_lines (options_of options) width (blocks_view blocks.now)) ≡ Some (map emitted_of lines.items)) }
     ensures narrow { result ≡ Err errors.TooNarrow
         → article_lines (options_of options) width (blocks_view blocks.now) ≡ None }
     ensures failed { result ≡ Err errors.Failed → ⊥ }
@@ -68,7 +69,7 @@ pub fn lay_article(
         → length (stretch_lines (options_of options) columns s) ≤ length layout }
     ensures exchange { (n : ℕ) (changed : SeenBlocks) (ms : List SeenLine) → Differ n 0 (blocks_view blocks.now) changed
         → article_lines (options_of options) width changed ≡ Some ms
-        → IfOk result (λ lines. others_told n (map told_of lines.items) ≡ map told (others n ms)) }
+        → IfOk result (λ lines. others_emitted n (map emitted_of lines.items) ≡ map emitted (others n ms)) }
     ensures paragraphs { 2 ≤ wrap_at (options_of options) width → AreParagraphs (blocks_view blocks.now)
         → result ≢ Err errors.TooNarrow }
 {
@@ -86,8 +87,8 @@ fn laid_article(
     options: LineOptions,
     width: usize,
 ) -> Result<Vec<ArticleLine>, BlockError>
-    ensures lines { IfOk result (λ lines. option_map (map told)
-        (article_lines (options_of options) width (blocks_view blocks.now)) ≡ Some (map told_of lines.items)) }
+    ensures lines { IfOk result (λ lines. option_map (map emitted)
+        (article_lines (options_of options) width (blocks_view blocks.now)) ≡ Some (map emitted_of lines.items)) }
     ensures narrow { result ≡ Err errors.TooNarrow
         → article_lines (options_of options) width (blocks_view blocks.now) ≡ None }
     ensures failed { result ≡ Err errors.Failed → ⊥ }
@@ -97,18 +98,18 @@ fn laid_article(
     }
     let room = Room { options, width };
     let mut lines = LineList::new(alloc);
-    let mut behind = Behind {
+    let mut trailing = After {
         paragraphs: 0,
         targets: LinkTargets::new(alloc),
     };
-    lay_blocks(alloc, room, blocks, &mut lines, &mut behind)?;
-    add_footnotes(alloc, room, behind.targets, &mut lines)?;
-    let lines = told(alloc, lines.into_lines())?;
+    lay_blocks(alloc, room, blocks, &mut lines, &mut trailing)?;
+    add_footnotes(alloc, room, trailing.targets, &mut lines)?;
+    let lines = emitted(alloc, lines.into_lines())?;
     Ok(lines)
 }
 
-fn told(alloc: Global, lines: Vec<Line>) -> Result<Vec<ArticleLine>, AllocError>
-    ensures { IfOk result (λ all. map told_of all.items ≡ map told (map line_of lines.items)) }
+fn emitted(alloc: Global, lines: Vec<Line>) -> Result<Vec<ArticleLine>, AllocError>
+    ensures { IfOk result (λ all. map emitted_of all.items ≡ map emitted (map line_of lines.items)) }
 {
     let mut all = Vec::with_capacity(alloc, lines.len())?;
     for Line {

@@ -1,7 +1,7 @@
 //! The lines of an article, as they are laid out.
 ghost use Rattle.std.specs.Prelude.{◌≡◌, ◌++◌, ◌∷◌, [], ◌||◌, None, Some, chars, map, if◌then◌else◌, IfOk, OnOk};
 ghost use Rattle.text_wrapping.specs.Blocks.{padded};
-ghost use Rattle.article_definitions.specs.Layouts.{behind, filled, parted, prefixed, has_content};
+ghost use Rattle.article_definitions.specs.Layouts.{trailing, filled, parted, prefixed, has_content};
 ghost use Rattle.article_layout.specs.Lines.{line_of, tag_of};
 ghost use Rattle.article_layout.specs.Settings.{options_of};
 ghost use Rattle.text_lines.specs.Tagged.{line_items};
@@ -52,7 +52,7 @@ fn holds_text(text: &str) -> bool
 /// The line after a prefix, filled where lines are.
 fn prefixed(alloc: Global, room: Room, prefix: &str, line: &Line) -> Result<Line, AllocError>
     ensures { IfOk result (λ all. line_of all
-        ≡ behind (options_of room.options) room.width (chars prefix.now) (line_of line.now)) }
+        ≡ trailing (options_of room.options) room.width (chars prefix.now) (line_of line.now)) }
 {
     let outermost = Vec::new(alloc);
     let mut all = TaggedLine::new(alloc);
@@ -118,7 +118,7 @@ impl LineList {
     }
 
     /// Adds lines, the first after one prefix, the others after another.
-    pub(crate) fn append_behind(
+    pub(crate) fn append_after(
         &mut self,
         alloc: Global,
         room: Room,

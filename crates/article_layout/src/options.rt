@@ -60,7 +60,7 @@ impl Room {
 
     /// The room after a prefix of so many columns, of what asks for so many with it. It is `TooNarrow` where fewer are
     /// left, or none.
-    pub(crate) fn behind(self, prefix: usize, least: usize) -> Result<Room, BlockError>
+    pub(crate) fn trailing(self, prefix: usize, least: usize) -> Result<Room, BlockError>
         ensures room { IfOk result (λ r. room self.width prefix least ≡ Some r.width) }
         ensures options { IfOk result (λ r. r.options ≡ self.options) }
         ensures narrow { result ≡ Err errors.TooNarrow → room self.width prefix least ≡ None }

@@ -15,14 +15,14 @@ use crate::options::Room;
 use article_definitions::calls_of_a_paragraph;
 use article_values::Inline;
 use block_layout::BlockLayout;
+use std::alloc::{AllocError, Global};
 use text_cells::LaidLine;
 use text_footnotes::LinkTargets;
-use std::alloc::{AllocError, Global};
 use text_pieces::BlockError;
 
 /// What came so far.
 #[derive(Drop)]
-pub(crate) struct Behind {
+pub(crate) struct After {
     /// How many paragraphs and headings.
     pub(crate) paragraphs: usize,
     /// The targets of links, in order.
@@ -56,15 +56,15 @@ pub(crate) fn paragraph_lines(
     alloc: Global,
     room: Room,
     contents: &[Inline],
-    behind: &mut Behind,
+    trailing: &mut After,
 ) -> Result<Vec<Line>, BlockError>
-    ensures lines { IfOk result (λ lines. paragraph_lines (options_of room.options) room.width behind.old.paragraphs
-        (all_targets behind.old.targets) (inlines_view contents.now) ≡ Some (map line_of lines.items)) }
+    ensures lines { IfOk result (λ lines. paragraph_lines (options_of room.options) room.width trailing.old.paragraphs
+        (all_targets trailing.old.targets) (inlines_view contents.now) ≡ Some (map line_of lines.items)) }
     ensures narrow { result ≡ Err errors.TooNarrow → paragraph_lines (options_of room.options) room.width
-        behind.old.paragraphs (all_targets behind.old.targets) (inlines_view contents.now) ≡ None }
-    ensures paragraphs { OnOk result (behind.new.paragraphs ≡ suc behind.old.paragraphs) }
-    ensures targets { OnOk result (all_targets behind.new.targets
-        ≡ all_targets behind.old.targets ++ targets_in (options_of room.options) (inlines_view contents.now)) }
+        trailing.old.paragraphs (all_targets trailing.old.targets) (inlines_view contents.now) ≡ None }
+    ensures paragraphs { OnOk result (trailing.new.paragraphs ≡ suc trailing.old.paragraphs) }
+    ensures targets { OnOk result (all_targets trailing.new.targets
+        ≡ all_targets trailing.old.targets ++ targets_in (options_of room.options) (inlines_view contents.now)) }
     ensures failed { result ≡ Err errors.Failed → ⊥ }
 {
     calls_of_a_paragraph();
@@ -74,13 +74,13 @@ pub(crate) fn paragraph_lines(
         alloc,
         room,
         &mut block,
-        &mut behind.targets,
+        &mut trailing.targets,
         contents,
         &outermost,
     )?;
     block.flush(room.measure(), &outermost)?;
-    let number = behind.paragraphs;
-    behind.paragraphs = one_more(number)?;
+    let number = trailing.paragraphs;
+    trailing.paragraphs = one_more(number)?;
     let laid = block.into_laid_lines().into_vec(alloc)?;
     let lines = numbered(alloc, laid, number)?;
     Ok(lines)

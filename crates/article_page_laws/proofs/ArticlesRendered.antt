@@ -1,6 +1,6 @@
 -- What an article's values are rendered as is what its layout's calls give.
-use Rattle.std.proofs.Common.{◌≡◌, ℕ, suc, ◌<◌, Bool, List, [], ◌∷◌, map, fold, Option, None, Some, if◌then◌else◌}
-use Rattle.std.proofs.Common.{refl, sym, ap, ◌∙◌, lt-ltb}
+use Rattle.std.proofs.Common.{◌≡◌, ◌<◌, [], ◌∷◌, if◌then◌else◌, ◌∙◌, Bool, List, None, Option, Some, ap, fold, lt-ltb}
+use Rattle.std.proofs.Common.{map, refl, suc, sym, ℕ}
 use Rattle.std.specs.Option.{option_and_then, option_map}
 use Rattle.article_definitions.specs.ArticleValues.{page_values}
 use Rattle.article_definitions.specs.BlockCalls.{add_notes, noted as noted_targets, run_blocks, run_notes}

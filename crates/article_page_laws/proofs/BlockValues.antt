@@ -1,14 +1,14 @@
 -- The values of an article's page.
-use Rattle.std.proofs.Common.{◌≡◌, ℕ, ℤ, suc, ◌<◌, ◌^◌, true, false, not, List, [], ◌∷◌, codes, Option, None, refl}
-use Rattle.std.proofs.Common.{ap, ◌∙◌}
+use Rattle.std.proofs.Common.{◌≡◌, ◌<◌, ◌^◌, [], ◌∷◌, ◌∙◌, List, None, Option, ap, codes, false, not, refl, suc, true}
+use Rattle.std.proofs.Common.{ℕ, ℤ}
 use Rattle.std.specs.Fmt.{signed_decimal}
 use Rattle.std.specs.Int.Signed.{mag}
 use Rattle.std.specs.Option.{option_or}
 use Rattle.article_definitions.specs.Layouts.{Options}
 use Rattle.article_values.specs.Articles.{Blocks, Items, bullets, division, heading, item, no_blocks, no_items, numbers}
 use Rattle.article_values.specs.Articles.{paragraph, quote}
-use Rattle.article_values.specs.Faults.{fault_of_blocks, fault_of_inlines, fault_of_items, fault_of_title, first_fault}
-use Rattle.article_values.specs.Faults.{fault_where, has_item, is_level, is_too_deep}
+use Rattle.article_values.specs.Faults.{fault_of_blocks, fault_of_inlines, fault_of_items, fault_of_title, fault_where}
+use Rattle.article_values.specs.Faults.{first_fault, has_item, is_level, is_too_deep}
 use Rattle.article_values.specs.declared.error.ArticleError.{ArticleError}
 use Rattle.article_values.specs.declared.error.ArticleError.TheVariants.{EmptyList, TooDeep}
 use Rattle.article_page_laws.specs.ArticleValues.{AreRulesOf, page_values, values_of_blocks, values_of_inlines}

@@ -1,21 +1,21 @@
 -- What the walk of a render tree makes of the values of an article's blocks: the calls of its blocks.
-use Rattle.std.proofs.Common.{◌≡◌, ℕ, ℤ, ◌+◌, ◌-◌, max, Bool, false, List, ◌++◌, replicate, codes, Option, None}
-use Rattle.std.proofs.Common.{Some, refl, sym, ap, ◌∙◌, append_assoc, append-nil}
+use Rattle.std.proofs.Common.{◌≡◌, ◌+◌, ◌-◌, ◌++◌, ◌∙◌, Bool, List, None, Option, Some, ap, append-nil, append_assoc}
+use Rattle.std.proofs.Common.{codes, false, max, refl, replicate, sym, ℕ, ℤ}
 use Rattle.std.specs.Option.{option_and_then, option_map}
 use Rattle.article_definitions.specs.ArticleValues.{values_of_blocks, values_of_inlines, values_of_items}
 use Rattle.article_definitions.specs.BlockCalls.{run_blocks, run_items}
 use Rattle.article_definitions.specs.Calls.{run}
 use Rattle.article_definitions.specs.Layouts.{Options, Tag, how_many, item_prefix, least_in, least_of, least_of_items}
-use Rattle.article_definitions.specs.Layouts.{next_number, outermost, parts_of, quote_prefix, room_of_numbers, targets_in}
-use Rattle.article_definitions.specs.Layouts.{targets_of, targets_of_items, to_room}
+use Rattle.article_definitions.specs.Layouts.{next_number, outermost, parts_of, quote_prefix, room_of_numbers}
+use Rattle.article_definitions.specs.Layouts.{targets_in, targets_of, targets_of_items, to_room}
 use Rattle.article_values.specs.Articles.{Blocks, Inlines, Items, bullets, division, heading, item, no_blocks, no_items}
 use Rattle.article_values.specs.Articles.{numbers, paragraph, quote}
 use Rattle.block_layout.specs.Laid.{Laid, end_block, flush, nothing_laid, start_block}
 use Rattle.block_layout.specs.declared.measure.Measure.{Measure}
 use Rattle.layout_state.specs.Begins.{begins, ends, following, leading, style_begins, style_ends}
 use Rattle.layout_state.specs.Items.{item_columns, item_mark, last_mark, next_mark, padded, spaces}
-use Rattle.layout_state.specs.Laying.{Step, behind_prefix, goes_on, mark_of}
-use Rattle.layout_state.specs.Laying as laying_of
+use Rattle.layout_state.specs.LayoutState.{Step, after_prefix, goes_on, mark_of}
+use Rattle.layout_state.specs.LayoutState as laying_of
 use Rattle.layout_state.specs.declared.around.Around.TheVariants.{Flow, Items as InItems}
 use Rattle.layout_state.specs.declared.around.ItemMark.{ItemMark}
 use Rattle.layout_state.specs.declared.around.ItemMark.TheVariants.{Bullet, Number}
@@ -25,7 +25,7 @@ use Rattle.render_values.specs.Plain.{plain_head}
 use Rattle.render_values.specs.Values.{Values, value}
 use Rattle.render_values.specs.declared.info.RenderInfo.{RenderInfo}
 use Rattle.render_values.specs.declared.info.RenderInfo.TheVariants as infos
-use Rattle.layout_values.specs.Lay.{behind_mark, content_of, holds, lay, listed, shown, styled}
+use Rattle.layout_values.specs.Lay.{after_mark, content_of, holds, lay, listed, shown, styled}
 use Rattle.block_trait.specs.Calls.{ends_block, ends_line, starts_block}
 use Rattle.block_trait.specs.declared.options.RenderOptions.{RenderOptions}
 use Rattle.text_block_renderer.specs.PlainText.{plain_marking}
@@ -36,8 +36,8 @@ use Rattle.article_page_laws.proofs.InlinesWalked.{are_walked, around_it, next, 
 use Rattle.article_page_laws.proofs.Leasts.{bullet_columns, least_of_inlines, least_of_item_values, least_of_values}
 use Rattle.article_page_laws.proofs.Leasts.{number_of_items, numbers_columns}
 use Rattle.article_page_laws.proofs.PagesLaid.{Layings, ended, flushed, part_at, started}
-use Rattle.article_page_laws.proofs.PartsWalked.{article, at, behind_is, in_list, ms, put, put_then, start_last, start_quiet}
-use Rattle.article_page_laws.proofs.PartsWalked.{start_rests, then_walk}
+use Rattle.article_page_laws.proofs.PartsWalked.{after_is, article, at, in_list, ms, put, put_then, start_last}
+use Rattle.article_page_laws.proofs.PartsWalked.{start_quiet, start_rests, then_walk}
 use Rattle.article_page_laws.proofs.Prefixes.{both, heading_columns_are, item_columns_are, quote_columns_are}
 use Rattle.article_page_laws.proofs.SaidTexts.{nothing_more}
 
@@ -51,9 +51,9 @@ next_mark_is None = refl
 next_mark_is (Some z) = refl
 
 -- the number after items
-abbrev number_behind : Items → Option ℤ → Option ℤ
-number_behind no_items number = number
-number_behind (item kids rest) number = number_behind rest (next_number number)
+abbrev number_after : Items → Option ℤ → Option ℤ
+number_after no_items number = number
+number_after (item kids rest) number = number_after rest (next_number number)
 
 module _ (given : RenderOptions) (decorates : Bool) (min_wrap : ℕ) (held : Unit {0}) where
   abbrev pub here : Place → List (List ℕ) → Laid Tag → Layings
@@ -97,20 +97,20 @@ module _ (given : RenderOptions) (decorates : Bool) (min_wrap : ℕ) (held : Uni
   heading_value : (level : ℕ) (inside rest : Values) (p : Place) (ts : List (List ℕ)) (b : Laid Tag) →
       walk (value (plain_head (infos.Heading level)) inside rest) (here p ts b)
       ≡ option_and_then (walk rest) (option_and_then (laying_of.says plain_marking ends_block) (option_and_then
-      (behind_mark plain_marking (header level) (least (infos.Heading level) inside) (walk inside))
+      (after_mark plain_marking (header level) (least (infos.Heading level) inside) (walk inside))
       (laying_of.says plain_marking starts_block (here p ts b))))
   unfolding begins ends holds leading following style_begins
   heading_value level inside rest p ts b = ap (option_and_then (walk rest))
-      (around_it (behind_mark plain_marking (header level) (least (infos.Heading level) inside) (walk inside)) _ _)
+      (around_it (after_mark plain_marking (header level) (least (infos.Heading level) inside) (walk inside)) _ _)
 
   quote_value : (inside rest : Values) (p : Place) (ts : List (List ℕ)) (b : Laid Tag) →
       walk (value (plain_head infos.Quote) inside rest) (here p ts b)
       ≡ option_and_then (walk rest) (option_and_then (laying_of.says plain_marking ends_block) (option_and_then
-      (behind_mark plain_marking quote_mark (least infos.Quote inside) (walk inside))
+      (after_mark plain_marking quote_mark (least infos.Quote inside) (walk inside))
       (laying_of.says plain_marking starts_block (here p ts b))))
   unfolding begins ends holds leading following style_begins
   quote_value inside rest p ts b = ap (option_and_then (walk rest))
-      (around_it (behind_mark plain_marking quote_mark (least infos.Quote inside) (walk inside)) _ _)
+      (around_it (after_mark plain_marking quote_mark (least infos.Quote inside) (walk inside)) _ _)
 
   bullets_value : (inside rest : Values) (p : Place) (ts : List (List ℕ)) (b : Laid Tag) →
       walk (value (plain_head infos.Bullets) inside rest) (here p ts b)
@@ -168,7 +168,7 @@ module _ (given : RenderOptions) (decorates : Bool) (min_wrap : ℕ) (held : Uni
       let mark : ItemMark = mark_at n in
       let text : List ℕ = padded columns (mark_of plain_marking (item_mark mark) (items_at n columns least p ts b)) in
       ap (λ x. option_and_then (walk rest) (option_and_then (goes_on (InItems (next_mark mark) columns least)) x))
-      (behind_is given decorates min_wrap held (InItems mark columns least) columns least text (spaces columns)
+      (after_is given decorates min_wrap held (InItems mark columns least) columns least text (spaces columns)
       (contained inside) p ts all b go (λ within. contained_is inside (here (part_at within p) ts nothing_laid)
       ∙ same within))
       ∙ ap (option_and_then (walk rest))
@@ -196,16 +196,16 @@ module _ (given : RenderOptions) (decorates : Bool) (min_wrap : ℕ) (held : Uni
   unfolding mark_of
   numbers_room first count l = numbers_columns o first count
 
-  listed_is : (n behind : Option ℤ) (count given_least columns asked : ℕ) (inside : Values) (p : Place)
+  listed_is : (n trailing : Option ℤ) (count given_least columns asked : ℕ) (inside : Values) (p : Place)
       (ts all : List (List ℕ)) (b : Laid Tag) (x : Option (Laid Tag)) →
       item_columns plain_marking (mark_at n) (last_mark (mark_at n) count) (here p ts b) ≡ columns →
       given_least ≡ asked →
-      walk inside (items_at n columns asked p ts b) ≡ option_map (items_at behind columns asked p all) x →
+      walk inside (items_at n columns asked p ts b) ≡ option_map (items_at trailing columns asked p all) x →
       listed plain_marking (mark_at n) count given_least (walk inside) (here p ts b) ≡ option_map (here p all) x
-  listed_is n behind count given_least columns asked inside p ts all b x room asks walked =
+  listed_is n trailing count given_least columns asked inside p ts all b x room asks walked =
       both (λ c k. option_and_then (goes_on Flow) (walk inside (items_at n c k p ts b))) room asks
       ∙ ap (option_and_then (goes_on Flow)) walked
-      ∙ flow_again behind columns asked p all x
+      ∙ flow_again trailing columns asked p all x
 
   -- ---- headings and quotes
 
@@ -213,16 +213,16 @@ module _ (given : RenderOptions) (decorates : Bool) (min_wrap : ℕ) (held : Uni
       (go : ℕ → Option (Laid Tag)) → least (infos.Heading level) (values_of_inlines o is) ≡ asked →
       ((within : ℕ) → walk (values_of_inlines o is) (here (part_at within p) ts nothing_laid)
       ≡ option_map (here (part_at within p) all) (go within)) →
-      behind_mark plain_marking (header level) (least (infos.Heading level) (values_of_inlines o is))
+      after_mark plain_marking (header level) (least (infos.Heading level) (values_of_inlines o is))
       (walk (values_of_inlines o is)) (here p ts b)
       ≡ option_map (here p all)
       (part p (level + 1) asked (replicate level 0x23 ++ codes " ") (replicate level 0x23 ++ codes " ") go b)
   unfolding mark_of
   headed_is level asked is p ts all b go asks same =
       let prefix : List ℕ = replicate level 0x23 ++ codes " " in
-      both (λ c k. behind_prefix plain_marking c prefix prefix k (walk (values_of_inlines o is)) (here p ts b))
+      both (λ c k. after_prefix plain_marking c prefix prefix k (walk (values_of_inlines o is)) (here p ts b))
       (heading_columns_are level) asks
-      ∙ behind_is given decorates min_wrap held Flow (level + 1) asked prefix prefix (walk
+      ∙ after_is given decorates min_wrap held Flow (level + 1) asked prefix prefix (walk
       (values_of_inlines o is)) p ts
       all b go same
 
@@ -230,13 +230,13 @@ module _ (given : RenderOptions) (decorates : Bool) (min_wrap : ℕ) (held : Uni
       (go : ℕ → Option (Laid Tag)) → least infos.Quote inside ≡ asked →
       ((within : ℕ) → walk inside (here (part_at within p) ts nothing_laid)
       ≡ option_map (here (part_at within p) all) (go within)) →
-      behind_mark plain_marking quote_mark (least infos.Quote inside) (walk inside) (here p ts b)
+      after_mark plain_marking quote_mark (least infos.Quote inside) (walk inside) (here p ts b)
       ≡ option_map (here p all) (part p 2 asked quote_prefix quote_prefix go b)
   unfolding mark_of
   quoted_is asked inside p ts all b go asks same =
-      both (λ c k. behind_prefix plain_marking c quote_prefix quote_prefix k (walk inside) (here p ts b))
+      both (λ c k. after_prefix plain_marking c quote_prefix quote_prefix k (walk inside) (here p ts b))
       quote_columns_are asks
-      ∙ behind_is given decorates min_wrap held Flow 2 asked quote_prefix quote_prefix (walk inside) p ts all b go same
+      ∙ after_is given decorates min_wrap held Flow 2 asked quote_prefix quote_prefix (walk inside) p ts all b go same
 
   ends_is : (p : Place) (ts : List (List ℕ)) (x : Option (Laid Tag)) →
       option_and_then (laying_of.says plain_marking ends_block) (option_map (here p ts) x)
@@ -275,16 +275,16 @@ module _ (given : RenderOptions) (decorates : Bool) (min_wrap : ℕ) (held : Uni
   paragraph_walked is rest filled walked p ts b =
       let inside : Values = values_of_inlines o is in
       let others : Values = values_of_blocks o rest in
-      let behind : List (List ℕ) = ts ++ targets_in o is in
+      let trailing : List (List ℕ) = ts ++ targets_in o is in
       let begun : Option (Laid Tag) = start_block (w p) outermost b in
       block_value inside others p ts b
       ∙ ap (λ x. option_and_then (walk others) (option_and_then (laying_of.says plain_marking ends_block)
       (option_and_then (walk inside) x))) (started given decorates min_wrap held p ts b)
       ∙ ap (λ x. option_and_then (walk others) (option_and_then (laying_of.says plain_marking ends_block) x))
-      (next (walk inside) (run (w p) (parts_of o outermost ts is)) (here p ts) (here p behind) begun
+      (next (walk inside) (run (w p) (parts_of o outermost ts is)) (here p ts) (here p trailing) begun
       (start_quiet (w p) b) (λ b quiet. inside_walked is filled p ts b quiet))
       ∙ ap (option_and_then (walk others))
-      (ends_is p behind (option_and_then (run (w p) (parts_of o outermost ts is)) begun))
+      (ends_is p trailing (option_and_then (run (w p) (parts_of o outermost ts is)) begun))
       ∙ rest_walked rest walked p ts (targets_in o is) end_block
       (option_and_then (run (w p) (parts_of o outermost ts is)) begun)
 
@@ -294,7 +294,7 @@ module _ (given : RenderOptions) (decorates : Bool) (min_wrap : ℕ) (held : Uni
       let inside : Values = values_of_inlines o is in
       let others : Values = values_of_blocks o rest in
       let targets : List (List ℕ) = targets_in o is in
-      let behind : List (List ℕ) = ts ++ targets in
+      let trailing : List (List ℕ) = ts ++ targets in
       let begun : Option (Laid Tag) = start_block (w p) outermost b in
       let asked : ℕ = capped (least_in o is + (level + 1)) in
       let prefix : List ℕ = replicate level 0x23 ++ codes " " in
@@ -303,16 +303,16 @@ module _ (given : RenderOptions) (decorates : Bool) (min_wrap : ℕ) (held : Uni
       ap capped (both (λ k n. k + n) (least_of_inlines o is) (heading_columns_are level)) in
       heading_value level inside others p ts b
       ∙ ap (λ x. option_and_then (walk others) (option_and_then (laying_of.says plain_marking ends_block)
-      (option_and_then (behind_mark plain_marking (header level) (least (infos.Heading level) inside)
+      (option_and_then (after_mark plain_marking (header level) (least (infos.Heading level) inside)
       (walk inside)) x)))
       (started given decorates min_wrap held p ts b)
       ∙ ap (λ x. option_and_then (walk others) (option_and_then (laying_of.says plain_marking ends_block) x))
-      (then_walk (behind_mark plain_marking (header level) (least (infos.Heading level) inside) (walk inside))
-      (part p (level + 1) asked prefix prefix go) (here p ts) (here p behind) begun
-      (λ b. headed_is level asked is p ts behind b go asks
+      (then_walk (after_mark plain_marking (header level) (least (infos.Heading level) inside) (walk inside))
+      (part p (level + 1) asked prefix prefix go) (here p ts) (here p trailing) begun
+      (λ b. headed_is level asked is p ts trailing b go asks
       (λ within. inside_walked is filled (part_at within p) ts nothing_laid refl)))
       ∙ ap (option_and_then (walk others))
-      (ends_is p behind (option_and_then (part p (level + 1) asked prefix prefix go) begun))
+      (ends_is p trailing (option_and_then (part p (level + 1) asked prefix prefix go) begun))
       ∙ rest_walked rest walked p ts targets end_block
       (option_and_then (part p (level + 1) asked prefix prefix go) begun)
       ∙ ap (option_map (here p (ts ++ (targets ++ targets_of o rest))))
@@ -323,18 +323,18 @@ module _ (given : RenderOptions) (decorates : Bool) (min_wrap : ℕ) (held : Uni
   division_walked kids rest in_kids walked p ts b =
       let inside : Values = values_of_blocks o kids in
       let others : Values = values_of_blocks o rest in
-      let behind : List (List ℕ) = ts ++ targets_of o kids in
+      let trailing : List (List ℕ) = ts ++ targets_of o kids in
       let begun : Option (Laid Tag) = flush (w p) outermost b in
       let filled : Option (Laid Tag) = option_and_then (run_blocks o p.width ts kids) begun in
       division_value inside others p ts b
       ∙ ap (λ x. option_and_then (walk others) (option_and_then (laying_of.says plain_marking ends_line)
       (option_and_then (walk inside) x))) (flushed given decorates min_wrap held p ts b)
       ∙ ap (λ x. option_and_then (walk others) (option_and_then (laying_of.says plain_marking ends_line) x))
-      (then_walk (walk inside) (run_blocks o p.width ts kids) (here p ts) (here p behind) begun
+      (then_walk (walk inside) (run_blocks o p.width ts kids) (here p ts) (here p trailing) begun
       (λ b. in_kids p ts b))
       ∙ ap (option_and_then (walk others))
-      (then_walk (laying_of.says plain_marking ends_line) (flush (w p) outermost) (here p behind) (here p behind) filled
-      (λ b. flushed given decorates min_wrap held p behind b))
+      (then_walk (laying_of.says plain_marking ends_line) (flush (w p) outermost) (here p trailing) (here p trailing) filled
+      (λ b. flushed given decorates min_wrap held p trailing b))
       ∙ rest_walked rest walked p ts (targets_of o kids) (λ b. b)
       (option_and_then (flush (w p) outermost) filled)
 
@@ -343,7 +343,7 @@ module _ (given : RenderOptions) (decorates : Bool) (min_wrap : ℕ) (held : Uni
       let inside : Values = values_of_blocks o kids in
       let others : Values = values_of_blocks o rest in
       let targets : List (List ℕ) = targets_of o kids in
-      let behind : List (List ℕ) = ts ++ targets in
+      let trailing : List (List ℕ) = ts ++ targets in
       let begun : Option (Laid Tag) = start_block (w p) outermost b in
       let asked : ℕ = capped (least_of o kids + 2) in
       let go = λ (within : ℕ). run_blocks o within ts kids nothing_laid in
@@ -351,15 +351,15 @@ module _ (given : RenderOptions) (decorates : Bool) (min_wrap : ℕ) (held : Uni
       ap capped (both (λ k n. k + n) (least_of_values o kids) quote_columns_are) in
       quote_value inside others p ts b
       ∙ ap (λ x. option_and_then (walk others) (option_and_then (laying_of.says plain_marking ends_block)
-      (option_and_then (behind_mark plain_marking quote_mark (least infos.Quote inside) (walk inside)) x)))
+      (option_and_then (after_mark plain_marking quote_mark (least infos.Quote inside) (walk inside)) x)))
       (started given decorates min_wrap held p ts b)
       ∙ ap (λ x. option_and_then (walk others) (option_and_then (laying_of.says plain_marking ends_block) x))
-      (then_walk (behind_mark plain_marking quote_mark (least infos.Quote inside) (walk inside))
-      (part p 2 asked quote_prefix quote_prefix go) (here p ts) (here p behind) begun
-      (λ b. quoted_is asked inside p ts behind b go asks
+      (then_walk (after_mark plain_marking quote_mark (least infos.Quote inside) (walk inside))
+      (part p 2 asked quote_prefix quote_prefix go) (here p ts) (here p trailing) begun
+      (λ b. quoted_is asked inside p ts trailing b go asks
       (λ within. in_kids (part_at within p) ts nothing_laid)))
       ∙ ap (option_and_then (walk others))
-      (ends_is p behind (option_and_then (part p 2 asked quote_prefix quote_prefix go) begun))
+      (ends_is p trailing (option_and_then (part p 2 asked quote_prefix quote_prefix go) begun))
       ∙ rest_walked rest walked p ts targets end_block
       (option_and_then (part p 2 asked quote_prefix quote_prefix go) begun)
       ∙ ap (option_map (here p (ts ++ (targets ++ targets_of o rest))))
@@ -370,7 +370,7 @@ module _ (given : RenderOptions) (decorates : Bool) (min_wrap : ℕ) (held : Uni
   abbrev InList : Option ℤ → (columns least : ℕ) → Items → Type 0
   InList number columns least items = (p : Place) (ts : List (List ℕ)) (b : Laid Tag) →
       walk (values_of_items o items) (items_at number columns least p ts b)
-      ≡ option_map (items_at (number_behind items number) columns least p (ts ++ targets_of_items o items))
+      ≡ option_map (items_at (number_after items number) columns least p (ts ++ targets_of_items o items))
       (run_items o p.width ts columns least number items b)
 
   item_walked : (number : Option ℤ) (columns least : ℕ) (kids : Blocks) (rest : Items) → AreWalked kids →
@@ -380,17 +380,17 @@ module _ (given : RenderOptions) (decorates : Bool) (min_wrap : ℕ) (held : Uni
       let others : Values = values_of_items o rest in
       let targets : List (List ℕ) = targets_of o kids in
       let more : List (List ℕ) = targets_of_items o rest in
-      let behind : List (List ℕ) = ts ++ targets in
-      let last : Option ℤ = number_behind rest (next_number number) in
+      let trailing : List (List ℕ) = ts ++ targets in
+      let last : Option ℤ = number_after rest (next_number number) in
       let go = λ (within : ℕ). run_blocks o within ts kids nothing_laid in
       let first : List ℕ = to_room columns (item_prefix number) in
       let laid : Option (Laid Tag) = part p columns least first (spaces columns) go b in
       let onwards = run_items o p.width (ts ++ targets) columns least (next_number number) rest in
-      item_value number columns least inside others p ts behind b go
+      item_value number columns least inside others p ts trailing b go
       (λ within. in_kids (part_at within p) ts nothing_laid)
-      ∙ then_walk (walk others) onwards (items_at (next_number number) columns least p behind)
-      (items_at last columns least p (behind ++ more)) laid
-      (λ b. walked p behind b)
+      ∙ then_walk (walk others) onwards (items_at (next_number number) columns least p trailing)
+      (items_at last columns least p (trailing ++ more)) laid
+      (λ b. walked p trailing b)
       ∙ ap (λ all. option_map (items_at last columns least p all) (option_and_then onwards laid))
       (append_assoc ts targets more)
       ∙ ap (option_map (items_at last columns least p (ts ++ (targets ++ more))))
@@ -401,7 +401,7 @@ module _ (given : RenderOptions) (decorates : Bool) (min_wrap : ℕ) (held : Uni
   bullets_walked items rest in_items walked p ts b =
       let inside : Values = values_of_items o items in
       let others : Values = values_of_blocks o rest in
-      let behind : List (List ℕ) = ts ++ targets_of_items o items in
+      let trailing : List (List ℕ) = ts ++ targets_of_items o items in
       let begun : Option (Laid Tag) = start_block (w p) outermost b in
       let asked : ℕ = capped (least_of_items o items + 2) in
       let runs = run_items o p.width ts 2 asked None items in
@@ -414,9 +414,9 @@ module _ (given : RenderOptions) (decorates : Bool) (min_wrap : ℕ) (held : Uni
       ∙ ap (option_and_then (walk others))
       (then_walk (listed plain_marking Bullet (number inside) (least infos.Bullets inside) (walk inside)) runs
       (here p ts)
-      (here p behind) begun
-      (λ b. listed_is None (number_behind items None) (number inside) (least infos.Bullets inside) 2 asked inside p ts
-      behind b (runs b) (bullets_room (number inside) (here p ts b)) asks (in_items p ts b)))
+      (here p trailing) begun
+      (λ b. listed_is None (number_after items None) (number inside) (least infos.Bullets inside) 2 asked inside p ts
+      trailing b (runs b) (bullets_room (number inside) (here p ts b)) asks (in_items p ts b)))
       ∙ rest_walked rest walked p ts (targets_of_items o items) (λ b. b) (option_and_then runs begun)
 
   numbers_walked : (first : ℤ) (items : Items) (rest : Blocks) →
@@ -426,7 +426,7 @@ module _ (given : RenderOptions) (decorates : Bool) (min_wrap : ℕ) (held : Uni
   numbers_walked first items rest in_items walked p ts b =
       let inside : Values = values_of_items o items in
       let others : Values = values_of_blocks o rest in
-      let behind : List (List ℕ) = ts ++ targets_of_items o items in
+      let trailing : List (List ℕ) = ts ++ targets_of_items o items in
       let begun : Option (Laid Tag) = start_block (w p) outermost b in
       let columns : ℕ = room_of_numbers first (how_many items) in
       let asked : ℕ = capped (least_of_items o items + columns) in
@@ -442,10 +442,10 @@ module _ (given : RenderOptions) (decorates : Bool) (min_wrap : ℕ) (held : Uni
       ∙ ap (option_and_then (walk others))
       (then_walk (listed plain_marking (Number first) (number inside) (least (infos.Numbers first) inside)
       (walk inside))
-      runs (here p ts) (here p behind) begun
-      (λ b. listed_is (Some first) (number_behind items (Some first)) (number inside) (least
+      runs (here p ts) (here p trailing) begun
+      (λ b. listed_is (Some first) (number_after items (Some first)) (number inside) (least
       (infos.Numbers first) inside)
-      columns asked inside p ts behind b (runs b) (numbers_room first (number inside) (here p ts b) ∙ room) asks
+      columns asked inside p ts trailing b (runs b) (numbers_room first (number inside) (here p ts b) ∙ room) asks
       (in_items p ts b)))
       ∙ rest_walked rest walked p ts (targets_of_items o items) (λ b. b) (option_and_then runs begun)
 

@@ -1,6 +1,6 @@
 -- The values of what stands in a paragraph.
-use Rattle.std.proofs.Common.{◌≡◌, ℕ, suc, ◌&&◌, Bool, true, false, not, List, [], ◌∷◌, codes, None, refl, ap, ◌∙◌}
-use Rattle.std.proofs.Common.{if◌then◌else◌}
+use Rattle.std.proofs.Common.{◌≡◌, ◌&&◌, [], ◌∷◌, ◌∙◌, if◌then◌else◌, Bool, List, None, ap, codes, false, not, refl}
+use Rattle.std.proofs.Common.{suc, true, ℕ}
 use Rattle.std.specs.Char.{is_whitespace}
 use Rattle.std.specs.List.{list_all}
 use Rattle.article_definitions.specs.Layouts.{Options, all_shallow, has_none, mark_of}
@@ -37,15 +37,15 @@ use Rattle.article_writing.specs.Contents.{content_of_inlines, style_name}
 same_linked : (linked : Bool) → linked ≡ true → linked ≡ false → ⊥
 same_linked linked e h = cc
 
-nothing_held : (o : Options) (d : ℕ) (behind : Bool) (kids : Inlines) → fault_of_inlines d true behind kids ≡ None →
+nothing_held : (o : Options) (d : ℕ) (trailing : Bool) (kids : Inlines) → fault_of_inlines d true trailing kids ≡ None →
     holds_none (values_of_inlines o kids) ≡ has_none kids
-nothing_held o d behind no_inlines h = refl
-nothing_held o d behind (words [] rest) h = cc
-nothing_held o d behind (words (c ∷ cs) rest) h = refl
-nothing_held o d behind (line_break rest) h = refl
-nothing_held o d behind (span style kids rest) h = refl
-nothing_held o d behind (link target kids rest) h =
-    absurd (same_linked true refl (link_passed d true behind target kids rest h).1.0)
+nothing_held o d trailing no_inlines h = refl
+nothing_held o d trailing (words [] rest) h = cc
+nothing_held o d trailing (words (c ∷ cs) rest) h = refl
+nothing_held o d trailing (line_break rest) h = refl
+nothing_held o d trailing (span style kids rest) h = refl
+nothing_held o d trailing (link target kids rest) h =
+    absurd (same_linked true refl (link_passed d true trailing target kids rest h).1.0)
 
 empty_style : (style : Style) (alone : Bool) → is_empty_value (plain_head (style_info style)) alone ≡ alone
 empty_style bold alone = refl
@@ -68,24 +68,24 @@ marked_held [] inside b e = ap holds_none (joined_none inside) ∙ e ∙ and_tru
 marked_held (c ∷ cs) inside b e = and_false b
 
 -- what shows nothing is the same by values and by inlines
-pub shows_nothing : (o : Options) (d : ℕ) (behind : Bool) (is : Inlines) → fault_of_inlines d true behind is ≡ None →
+pub shows_nothing : (o : Options) (d : ℕ) (trailing : Bool) (is : Inlines) → fault_of_inlines d true trailing is ≡ None →
     all_empty (values_of_inlines o is) ≡ all_shallow o is
-shows_nothing o d behind no_inlines h = refl
-shows_nothing o d behind (words [] rest) h = cc
+shows_nothing o d trailing no_inlines h = refl
+shows_nothing o d trailing (words [] rest) h = cc
 shows_nothing o d true (words (c ∷ cs) rest) h = cc
 shows_nothing o d false (words (c ∷ cs) rest) h =
     ap (λ b. list_all is_whitespace (c ∷ cs) && b) (shows_nothing o d true rest (word_passed d true c cs rest h).1)
-shows_nothing o d behind (line_break rest) h = shows_nothing o d false rest (break_passed d true behind rest h)
-shows_nothing o d behind (span style kids rest) h =
-    let b = span_passed d true behind style kids rest h in
+shows_nothing o d trailing (line_break rest) h = shows_nothing o d false rest (break_passed d true trailing rest h)
+shows_nothing o d trailing (span style kids rest) h =
+    let b = span_passed d true trailing style kids rest h in
     let inside = values_of_inlines o kids in
     let later = all_empty (values_of_inlines o rest) in
     ap (λ b. b && later) (empty_style style (holds_none (marked (mark_of o style) inside)))
     ∙ ap (λ b. b && later)
     (marked_held (mark_of o style) inside (has_none kids) (nothing_held o (suc d) false kids b.0))
     ∙ ap (λ b. (has_none kids && not (is_filled (mark_of o style))) && b) (shows_nothing o d false rest b.1)
-shows_nothing o d behind (link target kids rest) h =
-    absurd (same_linked true refl (link_passed d true behind target kids rest h).1.0)
+shows_nothing o d trailing (link target kids rest) h =
+    absurd (same_linked true refl (link_passed d true trailing target kids rest h).1.0)
 
 -- ---- elements
 
@@ -168,28 +168,28 @@ module _ (o : Options) (s : Styles) (seen : (name : List ℕ) → s name ≡ sty
 
   -- ---- inlines without a fault
 
-  pub inlines_valued : (d : ℕ) (linked behind : Bool) (is : Inlines) → fault_of_inlines d linked behind is ≡ None →
+  pub inlines_valued : (d : ℕ) (linked trailing : Bool) (is : Inlines) → fault_of_inlines d linked trailing is ≡ None →
       values s Flow (trees_of_content (content_of_inlines is)) ≡ values_of_inlines o is
-  inlines_valued d linked behind no_inlines h = refl
-  inlines_valued d linked behind (words [] rest) h = cc
+  inlines_valued d linked trailing no_inlines h = refl
+  inlines_valued d linked trailing (words [] rest) h = cc
   inlines_valued d linked true (words (c ∷ cs) rest) h = cc
   inlines_valued d linked false (words (c ∷ cs) rest) h =
       ap (value (plain_head (infos.Text (c ∷ cs))) none)
       (inlines_valued d linked true rest (word_passed d linked c cs rest h).1)
-  inlines_valued d linked behind (line_break rest) h =
+  inlines_valued d linked trailing (line_break rest) h =
       break_values (trees_of_content (content_of_inlines rest))
       ∙ ap (value (plain_head infos.Break) none)
-      (inlines_valued d linked false rest (break_passed d linked behind rest h))
-  inlines_valued d linked behind (span style kids rest) h =
-      let b = span_passed d linked behind style kids rest h in
+      (inlines_valued d linked false rest (break_passed d linked trailing rest h))
+  inlines_valued d linked trailing (span style kids rest) h =
+      let b = span_passed d linked trailing style kids rest h in
       let later = trees_of_content (content_of_inlines rest) in
       span_values style (trees_of_content (content_of_inlines kids)) later
       ∙ ap (λ vs. value (plain_head (style_info style)) (marked (mark_of o style) vs) (values s Flow later))
       (inlines_valued (suc d) linked false kids b.0)
       ∙ ap (value (plain_head (style_info style)) (marked (mark_of o style) (values_of_inlines o kids)))
       (inlines_valued d linked false rest b.1)
-  inlines_valued d linked behind (link target kids rest) h =
-      let b = link_passed d linked behind target kids rest h in
+  inlines_valued d linked trailing (link target kids rest) h =
+      let b = link_passed d linked trailing target kids rest h in
       let later = trees_of_content (content_of_inlines rest) in
       let inside = values_of_inlines o kids in
       link_values target (trees_of_content (content_of_inlines kids)) later

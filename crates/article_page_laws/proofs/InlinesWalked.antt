@@ -1,6 +1,6 @@
 -- What the walk of a render tree makes of the values of what a paragraph holds: the calls of its parts.
-use Rattle.std.proofs.Common.{◌≡◌, ℕ, Bool, true, false, List, [], ◌∷◌, ◌++◌, codes, Option, None}
-use Rattle.std.proofs.Common.{Some, if◌then◌else◌, refl, sym, ap, ◌∙◌, append_assoc, append-nil}
+use Rattle.std.proofs.Common.{◌≡◌, [], ◌∷◌, ◌++◌, if◌then◌else◌, ◌∙◌, Bool, List, None, Option, Some, ap, append-nil}
+use Rattle.std.proofs.Common.{append_assoc, codes, false, refl, sym, true, ℕ}
 use Rattle.std.specs.Option.{option_and_then, option_map}
 use Rattle.article_definitions.specs.ArticleValues.{link_before, marked, style_info, text_before, values_of_inlines}
 use Rattle.article_definitions.specs.Calls.{run}
@@ -11,8 +11,8 @@ use Rattle.article_values.specs.Articles.{span, strong, words}
 use Rattle.block_layout.specs.Laid.{Laid, break_line}
 use Rattle.block_layout.specs.declared.measure.Measure.{Measure}
 use Rattle.layout_state.specs.Begins.{begins, ends, following, leading, style_begins, style_ends}
-use Rattle.layout_state.specs.Laying.{Step, begins_link, ends_link}
-use Rattle.layout_state.specs.Laying as laying_of
+use Rattle.layout_state.specs.LayoutState.{Step, begins_link, ends_link}
+use Rattle.layout_state.specs.LayoutState as laying_of
 use Rattle.render_values.specs.Looks.{plain}
 use Rattle.render_values.specs.Plain.{plain_head}
 use Rattle.render_values.specs.Values.{Values, joined, none, value}
@@ -22,13 +22,14 @@ use Rattle.layout_values.specs.Lay.{content_of, holds, laid, lay}
 use Rattle.block_trait.specs.Calls.{ends_mark, starts_mark}
 use Rattle.block_trait.specs.declared.options.RenderOptions.{RenderOptions}
 use Rattle.text_block_renderer.specs.PlainText.{plain_marking}
-use Rattle.text_decorators.specs.Marks.{Mark, code_end, code_start, emphasis_end, emphasis_start, strong_end, strong_start}
+use Rattle.text_decorators.specs.Marks.{Mark, code_end, code_start, emphasis_end, emphasis_start, strong_end}
+use Rattle.text_decorators.specs.Marks.{strong_start}
 use Rattle.article_page_laws.specs.Measures.{plain_measure}
 use Rattle.article_page_laws.specs.Pages.{AreFilled, Place}
-use Rattle.article_page_laws.proofs.PagesLaid.{Layings, broke, laying, link_begun, link_ended, m, mark_begun, mark_ended, o}
-use Rattle.article_page_laws.proofs.PagesLaid.{said}
-use Rattle.article_page_laws.proofs.SaidTexts.{IsQuiet, both_behind, break_quiet, chained, empty_first, empty_last, run_both}
-use Rattle.article_page_laws.proofs.SaidTexts.{run_quiet, say, say_quiet, then_quiet}
+use Rattle.article_page_laws.proofs.PagesLaid.{Layings, broke, laying, link_begun, link_ended, m, mark_begun}
+use Rattle.article_page_laws.proofs.PagesLaid.{mark_ended, o, said}
+use Rattle.article_page_laws.proofs.SaidTexts.{IsQuiet, both_after, break_quiet, chained, empty_first, empty_last}
+use Rattle.article_page_laws.proofs.SaidTexts.{run_both, run_quiet, say, say_quiet, then_quiet}
 
 -- what is done to a block of lines in a renderer, and what is done after it
 pub next : (f : Layings → Option Layings) (g : Laid Tag → Option (Laid Tag)) (here there : Laid Tag → Layings)
@@ -43,11 +44,11 @@ unfolding style_ends
 unstyled None = refl
 unstyled (Some l) = refl
 
-pub around_it : (inside behind : Layings → Option Layings) (x : Option Layings) →
-    option_and_then (style_ends plain_marking plain) (option_and_then (λ l. option_and_then behind (inside l)) x)
-    ≡ option_and_then behind (option_and_then inside x)
-around_it inside behind None = unstyled None
-around_it inside behind (Some l) = unstyled (option_and_then behind (inside l))
+pub around_it : (inside trailing : Layings → Option Layings) (x : Option Layings) →
+    option_and_then (style_ends plain_marking plain) (option_and_then (λ l. option_and_then trailing (inside l)) x)
+    ≡ option_and_then trailing (option_and_then inside x)
+around_it inside trailing None = unstyled None
+around_it inside trailing (Some l) = unstyled (option_and_then trailing (inside l))
 
 abbrev start_of : Style → Mark
 start_of bold = strong_start
@@ -85,7 +86,7 @@ module _ (given : RenderOptions) (decorates : Bool) (min_wrap : ℕ) (held : Uni
   walk_joined : (xs ys : Values) (l : Layings) → walk (joined xs ys) l ≡ option_and_then (walk ys) (walk xs l)
   walk_joined none ys l = refl
   walk_joined (value head inside rest) ys l =
-      both_behind (walk ys) (walk rest) (walk (joined rest ys)) (walk_alone head inside l) (λ l. walk_joined rest ys l)
+      both_after (walk ys) (walk rest) (walk (joined rest ys)) (walk_alone head inside l) (λ l. walk_joined rest ys l)
 
   alone : (x : Option Layings) → option_and_then (style_ends plain_marking plain)
       (option_and_then (λ l. let all : Option Layings = Some l in all) x) ≡ x
@@ -189,9 +190,9 @@ module _ (given : RenderOptions) (decorates : Bool) (min_wrap : ℕ) (held : Uni
   marked_run w d mark parts b = option_and_then (said_mark w d mark)
       (option_and_then (run w parts) (said_mark w d mark b))
 
-  mark_behind : (mark : List ℕ) (p : Place) (ts : List (List ℕ)) (d : Tag) (b : Laid Tag) → b.awaits ≡ false →
+  mark_after : (mark : List ℕ) (p : Place) (ts : List (List ℕ)) (d : Tag) (b : Laid Tag) → b.awaits ≡ false →
       walk (text_before mark none) (at p ts d b) ≡ option_map (at p ts d) (said_mark (ms p) d mark b)
-  mark_behind mark p ts d b quiet =
+  mark_after mark p ts d b quiet =
       before_walked mark none p ts d b quiet ∙ kept (option_map (at p ts d) (said_mark (ms p) d mark b))
     where
       kept : (x : Option Layings) → option_and_then (walk none) x ≡ x
@@ -206,16 +207,16 @@ module _ (given : RenderOptions) (decorates : Bool) (min_wrap : ℕ) (held : Uni
       let w = ms p in
       let inside = values_of_inlines article kids in
       let parts = parts_of article d ts kids in
-      let behind = ts ++ targets_in article kids in
+      let trailing = ts ++ targets_in article kids in
       before_walked mark (joined inside (text_before mark none)) p ts d b quiet
       ∙ next (walk (joined inside (text_before mark none)))
-      (λ b. option_and_then (said_mark w d mark) (run w parts b)) (at p ts d) (at p behind d)
+      (λ b. option_and_then (said_mark w d mark) (run w parts b)) (at p ts d) (at p trailing d)
       (said_mark w d mark b) (mark_quiet w d mark b quiet)
       (λ b quiet. walk_joined inside (text_before mark none) (at p ts d b)
       ∙ ap (option_and_then (walk (text_before mark none))) (in_kids p ts d b quiet)
-      ∙ next (walk (text_before mark none)) (said_mark w d mark) (at p behind d) (at p behind d) (run w parts b)
-      (run_quiet w parts b quiet) (λ b quiet. mark_behind mark p behind d b quiet))
-      ∙ ap (option_map (at p behind d)) (sym (chained (said_mark w d mark) (run w parts) (said_mark w d mark b)))
+      ∙ next (walk (text_before mark none)) (said_mark w d mark) (at p trailing d) (at p trailing d) (run w parts b)
+      (run_quiet w parts b quiet) (λ b quiet. mark_after mark p trailing d b quiet))
+      ∙ ap (option_map (at p trailing d)) (sym (chained (said_mark w d mark) (run w parts) (said_mark w d mark b)))
 
   span_run : (w : Measure) (d : Tag) (mark : List ℕ) (inside rest : List Part) (b : Laid Tag) →
       option_and_then (run w rest) (option_and_then (say w d []) (option_and_then (marked_run w d mark inside)
@@ -262,8 +263,8 @@ module _ (given : RenderOptions) (decorates : Bool) (min_wrap : ℕ) (held : Uni
       let others : Values = values_of_inlines article rest in
       let parts : List Part = parts_of article e ts kids in
       let targets : List (List ℕ) = targets_in article kids in
-      let behind : List (List ℕ) = ts ++ targets in
-      let following : List Part = parts_of article d behind rest in
+      let trailing : List (List ℕ) = ts ++ targets in
+      let following : List Part = parts_of article d trailing rest in
       let begun : Option (Laid Tag) = say w e [] b in
       let begun_quiet : IsQuiet begun = say_quiet w e [] b quiet in
       let filled : Option (Laid Tag) = option_and_then (marked_run w e mark parts) begun in
@@ -278,14 +279,14 @@ module _ (given : RenderOptions) (decorates : Bool) (min_wrap : ℕ) (held : Uni
       (option_and_then (walk inside) x))) (span_begun style p ts d b quiet)
       ∙ ap (λ x. option_and_then (walk others) (option_and_then (laying_of.says plain_marking (ends_mark
       (end_of style))) x))
-      (next (walk inside) (marked_run w e mark parts) (at p ts e) (at p behind e) begun begun_quiet
+      (next (walk inside) (marked_run w e mark parts) (at p ts e) (at p trailing e) begun begun_quiet
       (λ b quiet. marked_walked mark kids in_kids p ts e b quiet))
       ∙ ap (option_and_then (walk others))
-      (next (laying_of.says plain_marking (ends_mark (end_of style))) (say w e []) (at p behind e) (at p behind d)
-      filled filled_quiet (λ b quiet. span_ended style p behind d b quiet))
-      ∙ next (walk others) (run w following) (at p behind d) (at p
-      (behind ++ targets_in article rest) d) ended ended_quiet
-      (λ b quiet. then_rest p behind d b quiet)
+      (next (laying_of.says plain_marking (ends_mark (end_of style))) (say w e []) (at p trailing e) (at p trailing d)
+      filled filled_quiet (λ b quiet. span_ended style p trailing d b quiet))
+      ∙ next (walk others) (run w following) (at p trailing d) (at p
+      (trailing ++ targets_in article rest) d) ended ended_quiet
+      (λ b quiet. then_rest p trailing d b quiet)
       ∙ ap (λ all. option_map (at p all d) (option_and_then (run w following) ended))
       (append_assoc ts targets (targets_in article rest))
       ∙ ap (option_map (at p (ts ++ (targets ++ targets_in article rest)) d)) (span_run w e mark parts following b)
@@ -348,14 +349,14 @@ module _ (given : RenderOptions) (decorates : Bool) (min_wrap : ℕ) (held : Uni
       let parts : List Part = parts_of article e here kids in
       let targets : List (List ℕ) = targets_in article kids in
       let more : List (List ℕ) = targets_in article rest in
-      let behind : List (List ℕ) = here ++ targets in
-      let following : List Part = parts_of article d behind rest in
+      let trailing : List (List ℕ) = here ++ targets in
+      let following : List Part = parts_of article d trailing rest in
       let begun : Option (Laid Tag) = say w e (codes "[") b in
       let begun_quiet : IsQuiet begun = say_quiet w e (codes "[") b quiet in
       let filled : Option (Laid Tag) = option_and_then (run w parts) begun in
       let filled_quiet : IsQuiet filled =
       then_quiet (run w parts) begun begun_quiet (λ b quiet. run_quiet w parts b quiet) in
-      let mark : List ℕ = number_mark article behind in
+      let mark : List ℕ = number_mark article trailing in
       let ended : Option (Laid Tag) = option_and_then (closed w d mark) filled in
       let ended_quiet : IsQuiet ended =
       then_quiet (closed w d mark) filled filled_quiet (λ b quiet. closed_quiet w d mark b quiet) in
@@ -364,13 +365,13 @@ module _ (given : RenderOptions) (decorates : Bool) (min_wrap : ℕ) (held : Uni
       (walk inside) x)))
       (link_begun given decorates min_wrap held target p ts d b quiet)
       ∙ ap (λ x. option_and_then (walk others) (option_and_then (ends_link plain_marking) x))
-      (next (walk inside) (run w parts) (at p here e) (at p behind e) begun begun_quiet
+      (next (walk inside) (run w parts) (at p here e) (at p trailing e) begun begun_quiet
       (λ b quiet. in_kids p here e b quiet))
       ∙ ap (option_and_then (walk others))
-      (next (ends_link plain_marking) (closed w d mark) (at p behind e) (at p behind d) filled filled_quiet
-      (λ b quiet. link_ended given decorates min_wrap held p behind d b quiet))
-      ∙ next (walk others) (run w following) (at p behind d) (at p (behind ++ more) d) ended ended_quiet
-      (λ b quiet. then_rest p behind d b quiet)
+      (next (ends_link plain_marking) (closed w d mark) (at p trailing e) (at p trailing d) filled filled_quiet
+      (λ b quiet. link_ended given decorates min_wrap held p trailing d b quiet))
+      ∙ next (walk others) (run w following) (at p trailing d) (at p (trailing ++ more) d) ended ended_quiet
+      (λ b quiet. then_rest p trailing d b quiet)
       ∙ ap (λ all. option_map (at p all d) (option_and_then (run w following) ended))
       (append_assoc here targets more ∙ append_assoc ts (target ∷ []) (targets ++ more))
       ∙ ap (option_map (at p (ts ++ target ∷ (targets ++ more)) d)) (link_run w d mark parts following b)
@@ -387,13 +388,13 @@ module _ (given : RenderOptions) (decorates : Bool) (min_wrap : ℕ) (held : Uni
   link_by true target kids rest in_kids then_rest p ts d b quiet = then_rest p ts d b quiet
   link_by false target kids rest in_kids then_rest p ts d b quiet =
       let inside : List Part = parts_of article (within d) (ts ++ target ∷ []) kids in
-      let end : List (List ℕ) → List Part = λ behind. says (codes "]") (within d)
-      ∷ says (number_mark article behind) d ∷ [] in
+      let end : List (List ℕ) → List Part = λ trailing. says (codes "]") (within d)
+      ∷ says (number_mark article trailing) d ∷ [] in
       let walked : List Part → Option Layings =
       λ parts. option_map (at p (ts ++ target ∷ (targets_in article kids ++ targets_in article rest)) d)
       (run (ms p) (says (codes "[") (within d) ∷ parts) b) in
       shown_walked target kids rest in_kids then_rest p ts d b quiet
-      ∙ ap (λ behind. walked (inside ++ (end behind ++ parts_of article d behind rest)))
+      ∙ ap (λ trailing. walked (inside ++ (end trailing ++ parts_of article d trailing rest)))
       (append_assoc ts (target ∷ []) (targets_in article kids))
       ∙ ap walked (sym (append_assoc inside (end (ts ++ target ∷ targets_in article kids))
       (parts_of article d (ts ++ target ∷ targets_in article kids) rest)))

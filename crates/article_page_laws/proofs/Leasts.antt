@@ -1,10 +1,10 @@
 -- The least width that an article's values ask for is the one that the article does.
-use Rattle.std.proofs.Common.{◌≡◌, ℕ, suc, ◌+◌, ◌-◌, max, ℤ, Bool, true, false, List, [], ◌∷◌, codes, None, Some}
-use Rattle.std.proofs.Common.{if◌then◌else◌, refl, sym, ap, ◌∙◌, arith}
+use Rattle.std.proofs.Common.{◌≡◌, ◌+◌, ◌-◌, [], ◌∷◌, if◌then◌else◌, ◌∙◌, Bool, List, None, Some, ap, arith, codes}
+use Rattle.std.proofs.Common.{false, max, refl, suc, sym, true, ℕ, ℤ}
 use Rattle.article_definitions.specs.ArticleValues.{link_before, marked, style_info, text_before, values_of_blocks}
 use Rattle.article_definitions.specs.ArticleValues.{values_of_inlines, values_of_items}
-use Rattle.article_definitions.specs.Layouts.{Options, all_shallow, how_many, least_in, least_of, least_of_items, least_text}
-use Rattle.article_definitions.specs.Layouts.{mark_of, room_of_numbers}
+use Rattle.article_definitions.specs.Layouts.{Options, all_shallow, how_many, least_in, least_of, least_of_items}
+use Rattle.article_definitions.specs.Layouts.{least_text, mark_of, room_of_numbers}
 use Rattle.article_values.specs.Articles.{Blocks, Inlines, Items, Style, bold, bullets, code, division, emphasis}
 use Rattle.article_values.specs.Articles.{heading, italic, item, line_break, link, no_blocks, no_inlines, no_items}
 use Rattle.article_values.specs.Articles.{numbers, paragraph, quote, span, strong, words}

@@ -1,6 +1,6 @@
 -- A page's renderer by the block of lines that it holds, and what calls of the renderer do to that block.
-use Rattle.std.proofs.Common.{◌≡◌, ℕ, Bool, true, false, not, ◌&&◌, List, [], ◌∷◌, ◌++◌, Option, None, Some}
-use Rattle.std.proofs.Common.{if◌then◌else◌, refl, sym, ap, ◌∙◌, codes, fold}
+use Rattle.std.proofs.Common.{◌≡◌, ◌&&◌, [], ◌∷◌, ◌++◌, if◌then◌else◌, ◌∙◌, Bool, List, None, Option, Some, ap, codes}
+use Rattle.std.proofs.Common.{false, fold, not, refl, sym, true, ℕ}
 use Rattle.std.specs.List.{list_all}
 use Rattle.std.specs.Char.{is_whitespace}
 use Rattle.std.specs.Option.{option_and_then, option_map}
@@ -9,9 +9,8 @@ use Rattle.article_definitions.specs.Layouts.{Options, Tag, number_mark, outermo
 use Rattle.block_layout.specs.Laid.{Laid, add_text, break_line, end_block, flush, start_block}
 use Rattle.block_layout.specs.declared.measure.Measure.{Measure}
 use Rattle.text_footnotes.specs.Targets.{last_number}
-use Rattle.layout_state.specs.Laying.{Laying, begins_link, ends_link, in_current, in_parts, says}
-use Rattle.block_trait.specs.Calls.{adds_text, breaks_line, ends_block, ends_line, ends_mark, starts_block}
-use Rattle.block_trait.specs.Calls.{starts_mark}
+use Rattle.layout_state.specs.LayoutState.{LayoutState, begins_link, ends_link, in_current, in_parts, says}
+use Rattle.block_trait.specs.Calls.{adds_text, breaks_line, ends_block, ends_line, ends_mark, starts_block, starts_mark}
 use Rattle.block_trait.specs.Renderers.{Sub, add_inline, on_laid, popped, with_laid}
 use Rattle.block_trait.specs.declared.options.RenderOptions.{RenderOptions}
 use Rattle.text_block_renderer.specs.PlainText.{plain_marking}
@@ -28,7 +27,7 @@ abbrev pub Page : Type 0
 Page = Sub (Unit {0}) (Unit {0})
 
 abbrev pub Layings : Type 0
-Layings = Laying (Unit {0}) (Unit {0})
+Layings = LayoutState (Unit {0}) (Unit {0})
 
 -- of a part with so many columns
 abbrev pub part_at : ℕ → Place → Place
@@ -159,25 +158,25 @@ module _ (given : RenderOptions) (decorates : Bool) (min_wrap : ℕ) (held : Uni
   numbered_by true n p d b quiet same = inline_is p d (footnote_mark n) b quiet
   numbered_by false n p d b quiet same = sym (ap (option_map (sub_at p d)) same)
 
-  abbrev part_behind : Place → List (List ℕ) → Tag → Laid Tag → Parts (Unit {0}) (Unit {0})
-  part_behind p ts d b = record { below = []; current = sub_at p d b; targets = ts }
+  abbrev part_after : Place → List (List ℕ) → Tag → Laid Tag → Parts (Unit {0}) (Unit {0})
+  part_after p ts d b = record { below = []; current = sub_at p d b; targets = ts }
 
   number_by : (p : Place) (ts : List (List ℕ)) (d : Tag) (b : Laid Tag) (x : Option (Laid Tag)) → IsQuiet x →
       option_and_then (say (m p) d []) x ≡ x →
       option_map (in_parts (laying p ts (within d) b)) (option_and_then (add_part_number plain_marking)
-      (option_map (with_current (part_behind p ts (within d) b)) (option_map popped (option_map (sub_at p
+      (option_map (with_current (part_after p ts (within d) b)) (option_map popped (option_map (sub_at p
       (within d)) x))))
       ≡ option_map (laying p ts d) (option_and_then (say (m p) d (number_mark o ts)) x)
   number_by p ts d b None quiet same = refl
   number_by p ts d b (Some c) quiet same =
-      ap (λ e. option_map (in_parts (laying p ts (within d) b)) (add_part_number plain_marking (part_behind p ts e c)))
+      ap (λ e. option_map (in_parts (laying p ts (within d) b)) (add_part_number plain_marking (part_after p ts e c)))
       (last_off d)
-      ∙ ap (λ s. option_map (in_parts (laying p ts (within d) b)) (option_map (with_current (part_behind p ts d c)) s))
+      ∙ ap (λ s. option_map (in_parts (laying p ts (within d) b)) (option_map (with_current (part_after p ts d c)) s))
       (numbered_by given.include_link_footnotes (last_number given.shared_footnotes ts) p d c quiet same)
       ∙ three (say (m p) d (number_mark o ts) c)
     where
       three : (x : Option (Laid Tag)) → option_map (in_parts (laying p ts (within d) b))
-          (option_map (with_current (part_behind p ts d c)) (option_map (sub_at p d) x)) ≡ option_map (laying p ts d) x
+          (option_map (with_current (part_after p ts d c)) (option_map (sub_at p d) x)) ≡ option_map (laying p ts d) x
       three None = refl
       three (Some b) = refl
 
@@ -188,7 +187,7 @@ module _ (given : RenderOptions) (decorates : Bool) (min_wrap : ℕ) (held : Uni
   unfolding ends_link
   link_ended p ts d b quiet =
       ap (λ s. option_map (in_parts (laying p ts (within d) b)) (option_and_then (add_part_number plain_marking)
-      (option_map (with_current (part_behind p ts (within d) b)) (option_map popped s))))
+      (option_map (with_current (part_after p ts (within d) b)) (option_map popped s))))
       (inline_is p (within d) (codes "]") b quiet)
       ∙ number_by p ts d b (say (m p) (within d) (codes "]") b) (say_quiet (m p) (within d) (codes "]") b quiet)
       (empty_last (m p) (within d) d (codes "]") b)

@@ -1,17 +1,17 @@
 -- Parts of a page after prefixes: what a walk makes of them in a renderer, as calls of blocks of lines.
-use Rattle.std.proofs.Common.{◌≡◌, ℕ, ◌-◌, max, Bool, true, false, List, [], ◌∷◌, Option, None, Some, if◌then◌else◌}
-use Rattle.std.proofs.Common.{refl, sym, ap, ◌∙◌}
+use Rattle.std.proofs.Common.{◌≡◌, ◌-◌, [], ◌∷◌, if◌then◌else◌, ◌∙◌, Bool, List, None, Option, Some, ap, false, max}
+use Rattle.std.proofs.Common.{refl, sym, true, ℕ}
 use Rattle.std.specs.Option.{option_and_then, option_map}
 use Rattle.std.specs.Prelude.{IfSome, nat_le}
 use Rattle.article_definitions.specs.BlockCalls.{append}
 use Rattle.article_definitions.specs.Calls.{measure}
 use Rattle.article_definitions.specs.Layouts.{Options, Tag, if_fits, outermost, room}
-use Rattle.block_layout.specs.Laid.{Laid, Running, add_text_line, add_text_lines, behind_empty_line, flush, flush_of}
+use Rattle.block_layout.specs.Laid.{Laid, Running, add_text_line, add_text_lines, after_empty_line, flush, flush_of}
 use Rattle.block_layout.specs.Laid.{has_content, laid_text, nothing_laid, parted, start_block, started, text_laid}
 use Rattle.block_layout.specs.Laid.{without_running}
 use Rattle.block_layout.specs.declared.measure.Measure.{Measure}
-use Rattle.layout_state.specs.Laying.{Step, behind_prefix, in_around, in_current, in_part, part_begun, part_ended}
-use Rattle.layout_state.specs.Laying.{says}
+use Rattle.layout_state.specs.LayoutState.{Step, after_prefix, in_around, in_current, in_part, part_begun, part_ended}
+use Rattle.layout_state.specs.LayoutState.{says}
 use Rattle.layout_state.specs.declared.around.Around.{Around}
 use Rattle.block_trait.specs.Renderers.{with_block, with_laid}
 use Rattle.block_trait.specs.declared.options.RenderOptions.{RenderOptions}
@@ -35,7 +35,7 @@ module _ (w : Measure) where
   -- ---- the start of a block
 
   parted_quiet : (has : Bool) (b : Laid Tag) →
-      (if has then behind_empty_line w outermost b else started b).awaits ≡ false
+      (if has then after_empty_line w outermost b else started b).awaits ≡ false
   parted_quiet true b = refl
   parted_quiet false b = refl
 
@@ -61,7 +61,7 @@ module _ (w : Measure) where
   flush_rests (Some r) b e = found_rests r.fill b (laid_text r.text) e
 
   parted_rests : (has : Bool) (b : Laid Tag) → b.running ≡ None →
-      (if has then behind_empty_line w outermost b else started b).running ≡ None
+      (if has then after_empty_line w outermost b else started b).running ≡ None
   parted_rests true b e = e
   parted_rests false b e = e
 
@@ -130,13 +130,13 @@ module _ (given : RenderOptions) (decorates : Bool) (min_wrap : ℕ) (held : Uni
       (λ sub. option_map (append article p.width within first following sub) (flush (ms p) outermost b))
       (option_and_then (flush (measure article within) outermost) (go within))) (room p.width columns least)
 
-  pub behind_is : (around : Around) (columns least : ℕ) (first following : List ℕ) (inside : Step (Unit {0}) (Unit {0}))
+  pub after_is : (around : Around) (columns least : ℕ) (first following : List ℕ) (inside : Step (Unit {0}) (Unit {0}))
       (p : Place) (ts all : List (List ℕ)) (b : Laid Tag) (go : ℕ → Option (Laid Tag)) →
       ((within : ℕ) → inside (at (part_at within p) ts nothing_laid)
       ≡ option_map (at (part_at within p) all) (go within)) →
-      behind_prefix plain_marking columns first following least inside (in_list around p ts b)
+      after_prefix plain_marking columns first following least inside (in_list around p ts b)
       ≡ option_map (at p all) (put p columns least first following go b)
-  behind_is around columns least first following inside p ts all b go same =
+  after_is around columns least first following inside p ts all b go same =
       ap (option_and_then (λ l. option_and_then
       (part_ended plain_marking (renderer_at given held p outermost b) first following) (inside l)))
       (part_is around columns least p ts b) ∙ by (room p.width columns least)

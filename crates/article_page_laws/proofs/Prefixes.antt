@@ -1,7 +1,7 @@
 -- The columns of what stands before headings and items are as many as its characters.
-use Rattle.std.proofs.Common.{◌≡◌, ℕ, zero, suc, ◌+◌, ◌/◌, ◌%◌, ◌<◌, ◌≤◌, ℤ, pos, negsuc, Bool, true, false, List, []}
-use Rattle.std.proofs.Common.{◌∷◌, ◌++◌, length, replicate, codes, Option, None, Some, if◌then◌else◌, inr, refl, ap}
-use Rattle.std.proofs.Common.{◌∙◌, length-append, arith}
+use Rattle.std.proofs.Common.{◌≡◌, ◌+◌, ◌/◌, ◌%◌, ◌<◌, ◌≤◌, [], ◌∷◌, ◌++◌, if◌then◌else◌, ◌∙◌, Bool, List, None, Option}
+use Rattle.std.proofs.Common.{Some, ap, arith, codes, false, inr, length, length-append, negsuc, pos, refl, replicate}
+use Rattle.std.proofs.Common.{suc, true, zero, ℕ, ℤ}
 use Rattle.std.specs.Fmt.{decimal, digit_glyph, digits, digits_onto, signed_decimal}
 use Rattle.std.specs.Prelude.{◌==◌, unwrap_or}
 use Rattle.std.proofs.lemmas.Bool.Decides.{nat_tests}

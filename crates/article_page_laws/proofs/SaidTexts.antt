@@ -1,13 +1,13 @@
 -- What texts and breaks do to a block of lines: they keep that it awaits no text, and an empty text beside another
 -- changes nothing.
-use Rattle.std.proofs.Common.{◌≡◌, ℕ, Bool, true, false, List, [], ◌∷◌, ◌++◌, Option, None, Some, if◌then◌else◌, refl}
-use Rattle.std.proofs.Common.{ap, ◌∙◌}
+use Rattle.std.proofs.Common.{◌≡◌, [], ◌∷◌, ◌++◌, if◌then◌else◌, ◌∙◌, Bool, List, None, Option, Some, ap, false, refl}
+use Rattle.std.proofs.Common.{true, ℕ}
 use Rattle.std.specs.Option.{option_and_then, option_map}
 use Rattle.std.specs.Prelude.{IfSome}
 use Rattle.article_definitions.specs.Calls.{run}
 use Rattle.article_definitions.specs.Layouts.{Part, Tag, breaks, says}
-use Rattle.block_layout.specs.Laid.{Laid, Running, add_text, add_text_line, add_text_lines, behind_empty_line, break_of}
-use Rattle.block_layout.specs.Laid.{break_line, broken_line, enter_mode, flush, flush_of, laid_text, run_on}
+use Rattle.block_layout.specs.Laid.{Laid, Running, add_text, add_text_line, add_text_lines, after_empty_line}
+use Rattle.block_layout.specs.Laid.{break_line, break_of, broken_line, enter_mode, flush, flush_of, laid_text, run_on}
 use Rattle.block_layout.specs.Laid.{running_or_new, text_laid, with_added, with_running, with_text_of, without_running}
 use Rattle.block_layout.specs.LaidRows.{before_last}
 use Rattle.block_layout.specs.declared.measure.Measure.{Measure}
@@ -38,10 +38,10 @@ pub chained : {A B C : Type 0} (f : B → Option C) (g : A → Option B) (x : Op
 chained f g None = refl
 chained f g (Some a) = refl
 
-pub both_behind : {A : Type 0} (f g both : A → Option A) (x : Option A) → ((a : A) → both a ≡ option_and_then f (g a)) →
+pub both_after : {A : Type 0} (f g both : A → Option A) (x : Option A) → ((a : A) → both a ≡ option_and_then f (g a)) →
     option_and_then both x ≡ option_and_then f (option_and_then g x)
-both_behind f g both None same = refl
-both_behind f g both (Some a) same = same a
+both_after f g both None same = refl
+both_after f g both (Some a) same = same a
 
 pub nothing_more : {A : Type 0} (x : Option A) → option_and_then (λ (a : A). Some a) x ≡ x
 nothing_more None = refl
@@ -84,7 +84,7 @@ module _ (m : Measure) where
       (λ b e. running_quiet cs (running_or_new m d b.running) b
       (added Normal cs d d (running_or_new m d b.running).text) e)
 
-  line_quiet : (tag : Tag) (x : Option (Laid Tag)) → IsQuiet (option_map (behind_empty_line m tag) x)
+  line_quiet : (tag : Tag) (x : Option (Laid Tag)) → IsQuiet (option_map (after_empty_line m tag) x)
   line_quiet tag None = tt
   line_quiet tag (Some b) = refl
 
@@ -117,9 +117,9 @@ module _ (m : Measure) where
       run m (xs ++ ys) b ≡ option_and_then (run m ys) (run m xs b)
   run_both [] ys b = refl
   run_both (says cs tag ∷ xs) ys b =
-      both_behind (run m ys) (run m xs) (run m (xs ++ ys)) (say m tag cs b) (λ b. run_both xs ys b)
+      both_after (run m ys) (run m xs) (run m (xs ++ ys)) (say m tag cs b) (λ b. run_both xs ys b)
   run_both (breaks tag ∷ xs) ys b =
-      both_behind (run m ys) (run m xs) (run m (xs ++ ys)) (break_line m tag b) (λ b. run_both xs ys b)
+      both_after (run m ys) (run m xs) (run m (xs ++ ys)) (break_line m tag b) (λ b. run_both xs ys b)
 
   -- ---- empty texts
 

@@ -1,10 +1,10 @@
 -- What is written of articles without quotes and strong text.
 use Rattle.std.proofs.Common.{◌≡◌, ℕ, List, [], ◌∷◌, Option, codes, refl, ap, ◌∙◌}
 use Rattle.std.specs.Fmt.{signed_decimal}
-use Rattle.article_page_laws.specs.PlainArticles.{PlainBlocks, PlainInlines, PlainItems, PlainStyle, bold, bullets, code}
-use Rattle.article_page_laws.specs.PlainArticles.{division, emphasis, heading, italic, item, line_break, link, no_blocks}
-use Rattle.article_page_laws.specs.PlainArticles.{no_inlines, no_items, numbers, paragraph, wide_blocks, wide_inlines}
-use Rattle.article_page_laws.specs.PlainArticles.{wide_items, wide_style, words}
+use Rattle.article_page_laws.specs.PlainArticles.{PlainBlocks, PlainInlines, PlainItems, PlainStyle, bold, bullets}
+use Rattle.article_page_laws.specs.PlainArticles.{code, division, emphasis, heading, italic, item, line_break, link}
+use Rattle.article_page_laws.specs.PlainArticles.{no_blocks, no_inlines, no_items, numbers, paragraph, wide_blocks}
+use Rattle.article_page_laws.specs.PlainArticles.{wide_inlines, wide_items, wide_style, words}
 use Rattle.article_page_laws.specs.PlainArticles as plain
 use Rattle.article_page_laws.specs.PlainContents.{content_of_plain, content_of_plain_blocks, content_of_plain_items}
 use Rattle.article_page_laws.specs.PlainContents.{plain_heading, plain_name, plain_text}

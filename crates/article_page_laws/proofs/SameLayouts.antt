@@ -1,24 +1,25 @@
 -- The lines of articles without quotes and strong text.
-use Rattle.std.proofs.Common.{◌≡◌, ℕ, ℤ, suc, ◌+◌, nat_lt, max, Bool, true, false, not, ◌&&◌, List, [], ◌∷◌, ◌++◌}
-use Rattle.std.proofs.Common.{length, length-append, replicate, codes, Option, None, Some, if◌then◌else◌, refl, ap, ◌∙◌}
-use Rattle.std.proofs.Common.{arith}
+use Rattle.std.proofs.Common.{◌≡◌, ◌+◌, ◌&&◌, [], ◌∷◌, ◌++◌, if◌then◌else◌, ◌∙◌, Bool, List, None, Option, Some, ap}
+use Rattle.std.proofs.Common.{arith, codes, false, length, length-append, max, nat_lt, not, refl, replicate, suc, true}
+use Rattle.std.proofs.Common.{ℕ, ℤ}
 use Rattle.std.specs.Char.{is_whitespace}
 use Rattle.std.specs.Fmt.{decimal}
 use Rattle.std.specs.List.{list_all}
 use Rattle.std.specs.Option.{option_map, option_and_then}
 use Rattle.article_definitions.specs.Layouts.{Line, Options, Part, Stretch, Tag, all_fit, breaks, if_fits, item_prefix}
-use Rattle.article_definitions.specs.Layouts.{least_text, lines_of_stretches, mark_of, next_number, notes}
-use Rattle.article_definitions.specs.Layouts.{outermost, parted, prefixed, room, room_of_numbers, says, stretches, to_room}
+use Rattle.article_definitions.specs.Layouts.{least_text, lines_of_stretches, mark_of, next_number, notes, outermost}
+use Rattle.article_definitions.specs.Layouts.{parted, prefixed, room, room_of_numbers, says, stretches, to_room}
 use Rattle.article_definitions.specs.Layouts.{unless_shallow, within}
 use Rattle.article_definitions.specs.Layouts as wide
 use Rattle.text_footnotes.specs.Targets.{last_number, noted_targets}
-use Rattle.article_page_laws.specs.PlainArticles.{PlainBlocks, PlainInlines, PlainItems, PlainStyle, bold, bullets, code}
-use Rattle.article_page_laws.specs.PlainArticles.{division, emphasis, heading, italic, item, line_break, link, no_blocks}
-use Rattle.article_page_laws.specs.PlainArticles.{no_inlines, no_items, numbers, paragraph, span, wide_blocks}
-use Rattle.article_page_laws.specs.PlainArticles.{wide_inlines, wide_items, wide_style, words}
+use Rattle.article_page_laws.specs.PlainArticles.{PlainBlocks, PlainInlines, PlainItems, PlainStyle, bold, bullets}
+use Rattle.article_page_laws.specs.PlainArticles.{code, division, emphasis, heading, italic, item, line_break, link}
+use Rattle.article_page_laws.specs.PlainArticles.{no_blocks, no_inlines, no_items, numbers, paragraph, span}
+use Rattle.article_page_laws.specs.PlainArticles.{wide_blocks, wide_inlines, wide_items, wide_style, words}
 use Rattle.article_page_laws.specs.PlainLayouts.{all_shallow, count, count_items, has_none, how_many, lay, lay_items}
-use Rattle.article_page_laws.specs.PlainLayouts.{least_in, least_of, least_of_items, mark_in, number_mark, paragraph_lines}
-use Rattle.article_page_laws.specs.PlainLayouts.{parts_of, plain_lines, targets_in, targets_of, targets_of_items}
+use Rattle.article_page_laws.specs.PlainLayouts.{least_in, least_of, least_of_items, mark_in, number_mark}
+use Rattle.article_page_laws.specs.PlainLayouts.{paragraph_lines, parts_of, plain_lines, targets_in, targets_of}
+use Rattle.article_page_laws.specs.PlainLayouts.{targets_of_items}
 use Rattle.layout_state.specs.Items.{spaces}
 use Rattle.render_sizes.specs.Extents.{capped}
 use Rattle.text_pieces.specs.Sources.{is_filled}
@@ -100,10 +101,10 @@ module _ (o : Options) where
   link_parts d mark shallow inside = unless_shallow shallow (says (codes "[") (within d)
       ∷ (inside ++ says (codes "]") (within d) ∷ says mark d ∷ []))
 
-  behind_link : (shallow : Bool) (ts us : List (List ℕ)) (n m : ℕ) → length ts ≡ n → length us ≡ m →
+  after_link : (shallow : Bool) (ts us : List (List ℕ)) (n m : ℕ) → length ts ≡ n → length us ≡ m →
       length (if shallow then ts else us) ≡ (if shallow then n else m)
-  behind_link true ts us n m many more = many
-  behind_link false ts us n m many more = more
+  after_link true ts us n m many more = many
+  after_link false ts us n m many more = more
 
   abbrev lines_of : (width number : ℕ) → List Part → Option (List Line)
   lines_of width k parts = let ss : List Stretch = stretches None [] parts in
@@ -211,7 +212,7 @@ module _ (o : Options) where
         (parts_stay (within d) (ts ++ target ∷ []) (suc n) kids (one_longer ts target n many))
         ∙ ap (λ ps. link_parts d (number_mark o m) (all_shallow o kids) (parts_of o (within d) (suc n) kids) ++ ps)
         (parts_stay d (if all_shallow o kids then ts else us) (if all_shallow o kids then n else m) rest
-        (behind_link (all_shallow o kids) ts us n m many more))
+        (after_link (all_shallow o kids) ts us n m many more))
 
     paragraph_stays : (width k : ℕ) (ts : List (List ℕ)) (n : ℕ) (is : PlainInlines) → length ts ≡ n →
         wide.paragraph_lines o width k ts (wide_inlines is) ≡ paragraph_lines o width k n is

@@ -1,6 +1,6 @@
 -- The trees of documents, without the numbers of nodes.
-use Rattle.std.proofs.Common.{◌≡◌, ℕ, ◌+◌, ◌≤◌, zero, suc, List, [], ◌∷◌, ◌++◌, length, codes, refl, sym, ap, ◌∙◌}
-use Rattle.std.proofs.Common.{append-nil, append_assoc, arith}
+use Rattle.std.proofs.Common.{◌≡◌, ◌+◌, ◌≤◌, [], ◌∷◌, ◌++◌, ◌∙◌, List, ap, append-nil, append_assoc, arith, codes}
+use Rattle.std.proofs.Common.{length, refl, suc, sym, zero, ℕ}
 use Rattle.std.proofs.lemmas.List.{length-append}
 use Rattle.std.specs.Prelude.{Option, None, Some}
 use Rattle.tree_forest.specs.Trees.{Trees, each_before, node, tree_before, trees}
@@ -46,25 +46,25 @@ less s k h = omega (arith, h)
 less_inside : (s t k : ℕ) → suc (s + t) ≤ suc k → s ≤ k
 less_inside s t k h = omega (arith, h)
 
-less_behind : (s t k : ℕ) → suc (s + t) ≤ suc k → t ≤ suc k
-less_behind s t k h = omega (arith, h)
+less_after : (s t k : ℕ) → suc (s + t) ≤ suc k → t ≤ suc k
+less_after s t k h = omega (arith, h)
 
-number_behind : (n a b x s : ℕ) → x ≡ a + b → a ≡ suc n → b ≡ s → x ≡ suc n + s
-number_behind n a b x s e h k = omega (arith, e, h, k)
+number_after : (n a b x s : ℕ) → x ≡ a + b → a ≡ suc n → b ≡ s → x ≡ suc n + s
+number_after n a b x s e h k = omega (arith, e, h, k)
 
-trees_of_listed : (content : Content) (k n : ℕ) (f front behind : Forest) → f ≡ front ++ (listed n content ++ behind) →
+trees_of_listed : (content : Content) (k n : ℕ) (f front trailing : Forest) → f ≡ front ++ (listed n content ++ trailing) →
     length front ≡ n → size content ≤ k → each_before (tree_before k f) (roots n content) ≡ trees_of_content content
-trees_of_listed none k n f front behind e before held = refl
-trees_of_listed (say c cs rest) zero n f front behind e before held = absurd (omega (arith, held))
-trees_of_listed (say c cs rest) (suc k) n f front behind e before held =
+trees_of_listed none k n f front trailing e before held = refl
+trees_of_listed (say c cs rest) zero n f front trailing e before held = absurd (omega (arith, held))
+trees_of_listed (say c cs rest) (suc k) n f front trailing e before held =
     let x = text_node (c ∷ cs) in
-    let later = listed (suc n) rest ++ behind in
+    let later = listed (suc n) rest ++ trailing in
     tree_here k n f x (each_before (tree_before (suc k) f) (roots (suc n) rest)) (node_here f front later x n e before)
     ∙ ap (node (text (c ∷ cs)) of_trees.none)
-    (trees_of_listed rest (suc k) (suc n) f (front ++ x ∷ []) behind (e ∙ sym (append_assoc front (x ∷ []) later))
+    (trees_of_listed rest (suc k) (suc n) f (front ++ x ∷ []) trailing (e ∙ sym (append_assoc front (x ∷ []) later))
     (longer front x n before) (less (size rest) k held))
-trees_of_listed (span name attributes kids rest) zero n f front behind e before held = absurd (omega (arith, held))
-trees_of_listed (span name attributes kids rest) (suc k) n f front behind e before held =
+trees_of_listed (span name attributes kids rest) zero n f front trailing e before held = absurd (omega (arith, held))
+trees_of_listed (span name attributes kids rest) (suc k) n f front trailing e before held =
     let x = node_of_element name attributes (roots (suc n) kids) in
     let m = suc n + size kids in
     let inner = listed (suc n) kids in
@@ -72,18 +72,18 @@ trees_of_listed (span name attributes kids rest) (suc k) n f front behind e befo
     let more = each_before (tree_before (suc k) f) (roots m rest) in
     let kind = kind_of name attributes in
     let past = front ++ x ∷ [] in
-    let behind_x : f ≡ past ++ (inner ++ (outer ++ behind)) =
-    e ∙ sym (append_assoc front (x ∷ []) ((inner ++ outer) ++ behind))
-    ∙ ap (λ (later : Forest). past ++ later) (append_assoc inner outer behind) in
-    tree_here k n f x more (node_here f front ((inner ++ outer) ++ behind) x n e before)
+    let after_x : f ≡ past ++ (inner ++ (outer ++ trailing)) =
+    e ∙ sym (append_assoc front (x ∷ []) ((inner ++ outer) ++ trailing))
+    ∙ ap (λ (later : Forest). past ++ later) (append_assoc inner outer trailing) in
+    tree_here k n f x more (node_here f front ((inner ++ outer) ++ trailing) x n e before)
     ∙ ap (λ ts. node kind ts more)
-    (trees_of_listed kids k (suc n) f past (outer ++ behind) behind_x (longer front x n before)
+    (trees_of_listed kids k (suc n) f past (outer ++ trailing) after_x (longer front x n before)
     (less_inside (size kids) (size rest) k held))
     ∙ ap (λ ts. node kind (trees_of_content kids) ts)
-    (trees_of_listed rest (suc k) m f (past ++ inner) behind
-    (behind_x ∙ sym (append_assoc past inner (outer ++ behind)))
-    (number_behind n (length past) (length inner) (length (past ++ inner)) (size kids) (length-append past inner)
-    (longer front x n before) (length_listed (suc n) kids)) (less_behind (size kids) (size rest) k held))
+    (trees_of_listed rest (suc k) m f (past ++ inner) trailing
+    (after_x ∙ sym (append_assoc past inner (outer ++ trailing)))
+    (number_after n (length past) (length inner) (length (past ++ inner)) (size kids) (length-append past inner)
+    (longer front x n before) (length_listed (suc n) kids)) (less_after (size kids) (size rest) k held))
 
 -- ---- the whole document
 

@@ -4,7 +4,7 @@ use Rattle.article_definitions.specs.Layouts.{Options, Tag}
 use Rattle.article_values.specs.Articles.{Blocks, Inlines, Items, bullets, division, heading, item, line_break, link}
 use Rattle.article_values.specs.Articles.{no_blocks, no_inlines, no_items, numbers, paragraph, quote, span, words}
 use Rattle.block_layout.specs.Laid.{Laid}
-use Rattle.layout_state.specs.Laying.{Laying, outside}
+use Rattle.layout_state.specs.LayoutState.{LayoutState, outside}
 use Rattle.layout_state.specs.declared.around.Around.TheVariants.{Flow}
 use Rattle.block_trait.specs.Renderers.{Sub, new_sub}
 use Rattle.block_trait.specs.declared.options.RenderOptions.{RenderOptions}
@@ -56,7 +56,7 @@ parts_at given held p targets tag b =
 
 -- the same between values, outside of all lists and tables
 abbrev pub laying_at : RenderOptions → (held : Unit {0}) → Place → (targets : List (List ℕ)) → Tag → Laid Tag
-    → Laying (Unit {0}) (Unit {0})
+    → LayoutState (Unit {0}) (Unit {0})
 laying_at given held p targets tag b =
     record { parts = parts_at given held p targets tag b; around = Flow; table = outside false }
 

@@ -1,9 +1,9 @@
 -- What is written of such an article (WHATWG HTML, 4.3 to 4.5 and 13.3).
 use Rattle.std.specs.Prelude.{ℕ, ◌+◌, List, [], ◌∷◌, Option, codes}
 use Rattle.std.specs.Fmt.{signed_decimal}
-use Rattle.article_page_laws.specs.PlainArticles.{PlainBlocks, PlainInlines, PlainItems, PlainStyle, bold, bullets, code}
-use Rattle.article_page_laws.specs.PlainArticles.{division, emphasis, heading, italic, item, line_break, link, no_blocks}
-use Rattle.article_page_laws.specs.PlainArticles.{no_inlines, no_items, numbers, paragraph, words}
+use Rattle.article_page_laws.specs.PlainArticles.{PlainBlocks, PlainInlines, PlainItems, PlainStyle, bold, bullets}
+use Rattle.article_page_laws.specs.PlainArticles.{code, division, emphasis, heading, italic, item, line_break, link}
+use Rattle.article_page_laws.specs.PlainArticles.{no_blocks, no_inlines, no_items, numbers, paragraph, words}
 use Rattle.article_page_laws.specs.PlainArticles as plain
 use Rattle.document_laws.specs.Contents.{Content, in_no_namespace, none, say, span}
 use Rattle.written_document_laws.specs.Documents.{document_text}

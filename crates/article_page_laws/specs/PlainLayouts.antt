@@ -1,18 +1,18 @@
 -- The lines of such an article, each link of which has a footnote of its own: what depends on the article's value, over
 -- the words of lines and parts that all articles share.
-use Rattle.std.specs.Prelude.{ℕ, ℤ, suc, ◌+◌, nat_lt, max, Bool, true, false, not, ◌&&◌, List, [], ◌∷◌, ◌++◌, length}
-use Rattle.std.specs.Prelude.{replicate, codes, Option, None, Some, if◌then◌else◌}
+use Rattle.std.specs.Prelude.{◌+◌, ◌&&◌, [], ◌∷◌, ◌++◌, if◌then◌else◌, Bool, List, None, Option, Some, codes, false}
+use Rattle.std.specs.Prelude.{length, max, nat_lt, not, replicate, suc, true, ℕ, ℤ}
 use Rattle.std.specs.Char.{is_whitespace}
 use Rattle.std.specs.Fmt.{decimal}
 use Rattle.std.specs.List.{list_all}
 use Rattle.std.specs.Option.{option_map, option_and_then}
-use Rattle.article_definitions.specs.Layouts.{Line, Options, Part, Tag, all_fit, breaks, if_fits, item_prefix, least_text}
-use Rattle.article_definitions.specs.Layouts.{lines_of_stretches, next_number, notes, outermost, parted}
+use Rattle.article_definitions.specs.Layouts.{Line, Options, Part, Tag, all_fit, breaks, if_fits, item_prefix}
+use Rattle.article_definitions.specs.Layouts.{least_text, lines_of_stretches, next_number, notes, outermost, parted}
 use Rattle.article_definitions.specs.Layouts.{prefixed, room, room_of_numbers, says, stretches, to_room, unless_shallow}
 use Rattle.article_definitions.specs.Layouts.{within}
-use Rattle.article_page_laws.specs.PlainArticles.{PlainBlocks, PlainInlines, PlainItems, PlainStyle, bold, bullets, code}
-use Rattle.article_page_laws.specs.PlainArticles.{division, emphasis, heading, italic, item, line_break, link, no_blocks}
-use Rattle.article_page_laws.specs.PlainArticles.{no_inlines, no_items, numbers, paragraph, span, words}
+use Rattle.article_page_laws.specs.PlainArticles.{PlainBlocks, PlainInlines, PlainItems, PlainStyle, bold, bullets}
+use Rattle.article_page_laws.specs.PlainArticles.{code, division, emphasis, heading, italic, item, line_break, link}
+use Rattle.article_page_laws.specs.PlainArticles.{no_blocks, no_inlines, no_items, numbers, paragraph, span, words}
 use Rattle.layout_state.specs.Items.{spaces}
 use Rattle.render_sizes.specs.Extents.{capped}
 use Rattle.text_pieces.specs.Sources.{is_filled}
@@ -89,10 +89,10 @@ parts_of o d n (line_break rest) = breaks d ∷ parts_of o d n rest
 parts_of o d n (span style kids rest) = says (mark_in o style) (within d)
     ∷ (parts_of o (within d) n kids ++ says (mark_in o style) (within d)
     ∷ parts_of o d (n + length (targets_in o kids)) rest)
-parts_of o d n (link target kids rest) = let behind = n + suc (length (targets_in o kids)) in
+parts_of o d n (link target kids rest) = let trailing = n + suc (length (targets_in o kids)) in
     unless_shallow (all_shallow o kids) (says (codes "[") (within d)
-    ∷ (parts_of o (within d) (suc n) kids ++ says (codes "]") (within d) ∷ says (number_mark o behind) d ∷ []))
-    ++ parts_of o d (if all_shallow o kids then n else behind) rest
+    ∷ (parts_of o (within d) (suc n) kids ++ says (codes "]") (within d) ∷ says (number_mark o trailing) d ∷ []))
+    ++ parts_of o d (if all_shallow o kids then n else trailing) rest
 
 abbrev pub paragraph_lines : Options → (width number links : ℕ) → PlainInlines → Option (List Line)
 paragraph_lines o width k n is = let ss = stretches None [] (parts_of o outermost n is) in

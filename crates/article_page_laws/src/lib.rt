@@ -72,4 +72,7 @@ mod walk;
 pub use conversion::articles_have_their_values;
 pub use plain::{lines_stay, written_text_stays};
 pub use rendering::articles_are_laid;
-pub use walk::{ values_ask_for_what_the_article_asks, values_of_a_page_are_its_calls, values_of_a_paragraph_are_its_calls, values_of_blocks_are_their_calls, };
+pub use walk::{
+    values_ask_for_what_the_article_asks, values_of_a_page_are_its_calls,
+    values_of_a_paragraph_are_its_calls, values_of_blocks_are_their_calls,
+};

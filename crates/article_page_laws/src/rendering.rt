@@ -6,8 +6,8 @@ ghost use Rattle.article_values.specs.Articles.{Blocks};
 ghost use Rattle.article_page_laws.specs.Pages.{AreFilledBlocks};
 ghost use Rattle.html_render_tree.specs.PageLines.{Setting};
 
-use article_definitions::calls_of_a_whole_article;
 use crate::walk::values_of_a_page_are_its_calls;
+use article_definitions::calls_of_a_whole_article;
 
 /// The values of an article none of whose texts is empty are rendered as the lines of the article, with its targets
 /// after them, and a width is too narrow for them only where the article has no lines: where no part may pass the

@@ -1,14 +1,15 @@
 //! Laws of the values of articles: each is the contract of a function that does nothing.
 ghost use Rattle.std.specs.Prelude.{◌≡◌, ◌+◌, ◌++◌, ℕ, ℤ, Bool, false, List, [], option_map};
-ghost use Rattle.article_definitions.specs.ArticleValues.{page_values, values_of_blocks, values_of_inlines, values_of_items};
+ghost use Rattle.article_definitions.specs.ArticleValues.{page_values, values_of_blocks, values_of_inlines};
+ghost use Rattle.article_definitions.specs.ArticleValues.{values_of_items};
 ghost use Rattle.article_definitions.specs.BlockCalls.{run_blocks};
 ghost use Rattle.article_definitions.specs.Calls.{measure, run};
-ghost use Rattle.article_definitions.specs.Layouts.{Options, Tag, least_in, least_of, least_of_items, outermost, parts_of};
-ghost use Rattle.article_definitions.specs.Layouts.{room_of_numbers, targets_in, targets_of};
+ghost use Rattle.article_definitions.specs.Layouts.{Options, Tag, least_in, least_of, least_of_items, outermost};
+ghost use Rattle.article_definitions.specs.Layouts.{parts_of, room_of_numbers, targets_in, targets_of};
 ghost use Rattle.article_values.specs.Articles.{Blocks, Inlines, Items};
 ghost use Rattle.article_page_laws.specs.Measures.{plain_measure};
-ghost use Rattle.article_page_laws.specs.Pages.{AreFilled, AreFilledBlocks, Place, laying_at, options_of};
-ghost use Rattle.article_page_laws.specs.Pages.{page_of, parts_at, whole};
+ghost use Rattle.article_page_laws.specs.Pages.{AreFilled, AreFilledBlocks, Place, laying_at, options_of, page_of};
+ghost use Rattle.article_page_laws.specs.Pages.{parts_at, whole};
 ghost use Rattle.block_layout.specs.Laid.{Laid, nothing_laid};
 ghost use Rattle.render_sizes.specs.Extents.{extent};
 ghost use Rattle.layout_values.specs.Lay.{laid_parts, lay};

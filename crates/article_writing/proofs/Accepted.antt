@@ -1,7 +1,6 @@
 -- What has no fault is what may stand in a body, and neither NUL nor CR stands in it.
-use Rattle.std.proofs.Common.{◌≡◌, ℕ, ℤ, pos, negsuc, zero, suc, ◌+◌, ◌/◌, ◌%◌, ◌==◌, ◌||◌, Bool, true, false, not}
-use Rattle.std.proofs.Common.{List, [], ◌∷◌, codes, Option, None, Some, if◌then◌else◌, refl, ap, ◌∙◌, arith}
-use Rattle.std.proofs.Common.{nat_lt}
+use Rattle.std.proofs.Common.{◌≡◌, ◌+◌, ◌/◌, ◌%◌, ◌==◌, ◌||◌, [], ◌∷◌, if◌then◌else◌, ◌∙◌, Bool, List, None, Option}
+use Rattle.std.proofs.Common.{Some, ap, arith, codes, false, nat_lt, negsuc, not, pos, refl, suc, true, zero, ℕ, ℤ}
 use Rattle.std.proofs.lemmas.Bool.Decides.{nat_tests}
 use Rattle.std.specs.Fmt.{decimal, digit_glyph, digits, digits_onto, signed_decimal}
 use Rattle.std.specs.List.{list_any}
@@ -11,16 +10,13 @@ use Rattle.article_values.specs.Articles.{heading, italic, item, line_break, lin
 use Rattle.article_values.specs.Articles.{numbers, paragraph, quote, strong, words}
 use Rattle.article_values.specs.Articles as articles
 use Rattle.article_values.specs.Faults.{fault_of_blocks, fault_of_inlines, fault_of_items, fault_of_title, fault_where}
-use Rattle.article_values.specs.Faults.{first_fault, has_forbidden, has_item, is_forbidden, is_level}
-use Rattle.article_values.specs.Faults.{is_too_deep}
+use Rattle.article_values.specs.Faults.{first_fault, has_forbidden, has_item, is_forbidden, is_level, is_too_deep}
 use Rattle.article_values.specs.declared.error.ArticleError.{ArticleError}
-use Rattle.article_values.specs.declared.error.ArticleError.TheVariants.{BadLevel, EmptyList}
-use Rattle.article_values.specs.declared.error.ArticleError.TheVariants.{ForbiddenCharacter, LinkInLink}
-use Rattle.article_values.specs.declared.error.ArticleError.TheVariants.{TooDeep}
+use Rattle.article_values.specs.declared.error.ArticleError.TheVariants.{BadLevel, EmptyList, ForbiddenCharacter}
+use Rattle.article_values.specs.declared.error.ArticleError.TheVariants.{LinkInLink, TooDeep}
 use Rattle.tree_forest.specs.Forest.{is_in}
 use Rattle.tree_names.specs.Sets.{is_one_of}
-use Rattle.document_laws.specs.Contents.{IsBlocks, IsInlines, in_no_namespace, marks, none}
-use Rattle.document_laws.specs.Contents.{span, texts_of_blocks}
+use Rattle.document_laws.specs.Contents.{IsBlocks, IsInlines, in_no_namespace, marks, none, span, texts_of_blocks}
 use Rattle.document_laws.specs.Contents as kinds
 use Rattle.article_writing.specs.Contents.{content_of_blocks, content_of_inlines, content_of_items, heading_name}
 use Rattle.article_writing.specs.Contents.{style_name}
@@ -47,23 +43,23 @@ word_passed d linked c cs rest h =
     let a = passed (has_forbidden (c ∷ cs)) ForbiddenCharacter (fault_where (is_too_deep d) TooDeep later) h in
     (a.0, (passed (is_too_deep d) TooDeep later a.1).1)
 
-pub break_passed : (d : ℕ) (linked behind : Bool) (rest : Inlines) →
-    fault_of_inlines d linked behind (line_break rest) ≡ None → fault_of_inlines d linked false rest ≡ None
-break_passed d linked behind rest h = (passed (is_too_deep d) TooDeep (fault_of_inlines d linked false rest) h).1
+pub break_passed : (d : ℕ) (linked trailing : Bool) (rest : Inlines) →
+    fault_of_inlines d linked trailing (line_break rest) ≡ None → fault_of_inlines d linked false rest ≡ None
+break_passed d linked trailing rest h = (passed (is_too_deep d) TooDeep (fault_of_inlines d linked false rest) h).1
 
-pub span_passed : (d : ℕ) (linked behind : Bool) (style : Style) (contents rest : Inlines) →
-    fault_of_inlines d linked behind (articles.span style contents rest) ≡ None →
+pub span_passed : (d : ℕ) (linked trailing : Bool) (style : Style) (contents rest : Inlines) →
+    fault_of_inlines d linked trailing (articles.span style contents rest) ≡ None →
     (fault_of_inlines (suc d) linked false contents ≡ None) × (fault_of_inlines d linked false rest ≡ None)
-span_passed d linked behind style contents rest h =
+span_passed d linked trailing style contents rest h =
     let within = fault_of_inlines (suc d) linked false contents in
     let later = fault_of_inlines d linked false rest in
     both_none within later (passed (is_too_deep d) TooDeep (option_or within later) h).1
 
-pub link_passed : (d : ℕ) (linked behind : Bool) (target : List ℕ) (contents rest : Inlines) →
-    fault_of_inlines d linked behind (link target contents rest) ≡ None →
+pub link_passed : (d : ℕ) (linked trailing : Bool) (target : List ℕ) (contents rest : Inlines) →
+    fault_of_inlines d linked trailing (link target contents rest) ≡ None →
     (has_forbidden target ≡ false) × ((linked ≡ false)
     × ((fault_of_inlines (suc d) true false contents ≡ None) × (fault_of_inlines d linked false rest ≡ None)))
-link_passed d linked behind target contents rest h =
+link_passed d linked trailing target contents rest h =
     let within = fault_of_inlines (suc d) true false contents in
     let later = fault_of_inlines d linked false rest in
     let both = option_or within later in
@@ -104,24 +100,24 @@ style_marks emphasis = refl
 style_marks code = refl
 style_marks strong = refl
 
-inlines_are : (d : ℕ) (linked behind : Bool) (is : Inlines) → fault_of_inlines d linked behind is ≡ None →
-    IsInlines linked behind (content_of_inlines is)
-inlines_are d linked behind no_inlines h = kinds.nothing linked behind
-inlines_are d linked behind (words [] rest) h = cc
+inlines_are : (d : ℕ) (linked trailing : Bool) (is : Inlines) → fault_of_inlines d linked trailing is ≡ None →
+    IsInlines linked trailing (content_of_inlines is)
+inlines_are d linked trailing no_inlines h = kinds.nothing linked trailing
+inlines_are d linked trailing (words [] rest) h = cc
 inlines_are d linked true (words (c ∷ cs) rest) h = cc
 inlines_are d linked false (words (c ∷ cs) rest) h =
     kinds.text linked c cs (content_of_inlines rest)
     (inlines_are d linked true rest (word_passed d linked c cs rest h).1)
-inlines_are d linked behind (line_break rest) h =
-    kinds.inline linked behind kinds.line_break (codes "br") [] none (content_of_inlines rest) (refl, (refl, refl))
-    (kinds.nothing linked false) (inlines_are d linked false rest (break_passed d linked behind rest h))
-inlines_are d linked behind (articles.span style contents rest) h =
-    let b = span_passed d linked behind style contents rest h in
-    kinds.inline linked behind kinds.mark (style_name style) [] (content_of_inlines contents) (content_of_inlines rest)
+inlines_are d linked trailing (line_break rest) h =
+    kinds.inline linked trailing kinds.line_break (codes "br") [] none (content_of_inlines rest) (refl, (refl, refl))
+    (kinds.nothing linked false) (inlines_are d linked false rest (break_passed d linked trailing rest h))
+inlines_are d linked trailing (articles.span style contents rest) h =
+    let b = span_passed d linked trailing style contents rest h in
+    kinds.inline linked trailing kinds.mark (style_name style) [] (content_of_inlines contents) (content_of_inlines rest)
     (style_marks style, refl) (inlines_are (suc d) linked false contents b.0) (inlines_are d linked false rest b.1)
-inlines_are d linked behind (link target contents rest) h =
-    let b = link_passed d linked behind target contents rest h in
-    kinds.inline linked behind kinds.link (codes "a") (in_no_namespace (codes "href") target ∷ [])
+inlines_are d linked trailing (link target contents rest) h =
+    let b = link_passed d linked trailing target contents rest h in
+    kinds.inline linked trailing kinds.link (codes "a") (in_no_namespace (codes "href") target ∷ [])
     (content_of_inlines contents) (content_of_inlines rest) (refl, ((target, refl), b.1.0))
     (inlines_are (suc d) true false contents b.1.1.0) (inlines_are d linked false rest b.1.1.1)
 
@@ -230,21 +226,21 @@ module _ (c : ℕ) (forbidden : is_forbidden c ≡ true) where
       ap (λ b. if b then true else is_in c (decimal (suc n))) (apart 45 refl forbidden)
       ∙ decimal_without c (low_digit c forbidden) (suc n)
 
-  inlines_without : (d : ℕ) (linked behind : Bool) (is : Inlines) → fault_of_inlines d linked behind is ≡ None →
+  inlines_without : (d : ℕ) (linked trailing : Bool) (is : Inlines) → fault_of_inlines d linked trailing is ≡ None →
       IsWithout c (content_of_inlines is)
-  inlines_without d linked behind no_inlines h = tt
-  inlines_without d linked behind (words [] rest) h = cc
+  inlines_without d linked trailing no_inlines h = tt
+  inlines_without d linked trailing (words [] rest) h = cc
   inlines_without d linked true (words (e ∷ es) rest) h = cc
   inlines_without d linked false (words (e ∷ es) rest) h =
       let b = word_passed d linked e es rest h in
       (text_without (e ∷ es) b.0, inlines_without d linked true rest b.1)
-  inlines_without d linked behind (line_break rest) h =
-      (tt, (tt, inlines_without d linked false rest (break_passed d linked behind rest h)))
-  inlines_without d linked behind (articles.span style contents rest) h =
-      let b = span_passed d linked behind style contents rest h in
+  inlines_without d linked trailing (line_break rest) h =
+      (tt, (tt, inlines_without d linked false rest (break_passed d linked trailing rest h)))
+  inlines_without d linked trailing (articles.span style contents rest) h =
+      let b = span_passed d linked trailing style contents rest h in
       (tt, (inlines_without (suc d) linked false contents b.0, inlines_without d linked false rest b.1))
-  inlines_without d linked behind (link target contents rest) h =
-      let b = link_passed d linked behind target contents rest h in (
+  inlines_without d linked trailing (link target contents rest) h =
+      let b = link_passed d linked trailing target contents rest h in (
         (text_without target b.0, tt),
         (inlines_without (suc d) true false contents b.1.1.0, inlines_without d linked false rest b.1.1.1),
       )

@@ -1,6 +1,6 @@
 -- The blocks of an article are read off the contents of its page; so two articles with equal contents are equal.
-use Rattle.std.proofs.Common.{◌≡◌, ℕ, ℤ, pos, negsuc, zero, suc, ◌+◌, ◌-◌, ◌==◌, ◌<◌, ◌^◌, Bool, true, false, List, []}
-use Rattle.std.proofs.Common.{◌∷◌, codes, Option, None, if◌then◌else◌, refl, sym, ap, ◌∙◌, arith}
+use Rattle.std.proofs.Common.{◌≡◌, ◌+◌, ◌-◌, ◌==◌, ◌<◌, ◌^◌, [], ◌∷◌, if◌then◌else◌, ◌∙◌, Bool, List, None, Option, ap}
+use Rattle.std.proofs.Common.{arith, codes, false, negsuc, pos, refl, suc, sym, true, zero, ℕ, ℤ}
 use Rattle.std.proofs.lemmas.Bool.Decides.{nat_tests}
 use Rattle.std.proofs.lemmas.Fmt.{decimal_is_IsNumeral}
 use Rattle.std.specs.Fmt.{decimal, signed_decimal}
@@ -17,7 +17,7 @@ use Rattle.tree_names.specs.Sets.{is_one_of}
 use Rattle.document_laws.specs.Contents.{Content, none, say, span}
 use Rattle.article_writing.proofs.Accepted.{both_none, break_passed, decimal_without, heading_passed, held_passed}
 use Rattle.article_writing.proofs.Accepted.{link_passed, list_passed, span_passed, word_passed}
-use Rattle.article_writing.specs.Contents.{NumbersFit, ItemsFit, content_of_blocks, content_of_inlines}
+use Rattle.article_writing.specs.Contents.{ItemsFit, NumbersFit, content_of_blocks, content_of_inlines}
 use Rattle.article_writing.specs.Contents.{content_of_items, style_name}
 
 -- ---- inline contents
@@ -48,23 +48,23 @@ style_read emphasis contents rest = refl
 style_read code contents rest = refl
 style_read strong contents rest = refl
 
-inlines_read : (d : ℕ) (linked behind : Bool) (is : Inlines) → fault_of_inlines d linked behind is ≡ None →
+inlines_read : (d : ℕ) (linked trailing : Bool) (is : Inlines) → fault_of_inlines d linked trailing is ≡ None →
     inlines_in (content_of_inlines is) ≡ is
-inlines_read d linked behind no_inlines h = refl
-inlines_read d linked behind (words [] rest) h = cc
+inlines_read d linked trailing no_inlines h = refl
+inlines_read d linked trailing (words [] rest) h = cc
 inlines_read d linked true (words (c ∷ cs) rest) h = cc
 inlines_read d linked false (words (c ∷ cs) rest) h =
     ap (words (c ∷ cs)) (inlines_read d linked true rest (word_passed d linked c cs rest h).1)
-inlines_read d linked behind (line_break rest) h =
-    ap line_break (inlines_read d linked false rest (break_passed d linked behind rest h))
-inlines_read d linked behind (articles.span style contents rest) h =
-    let b = span_passed d linked behind style contents rest h in
+inlines_read d linked trailing (line_break rest) h =
+    ap line_break (inlines_read d linked false rest (break_passed d linked trailing rest h))
+inlines_read d linked trailing (articles.span style contents rest) h =
+    let b = span_passed d linked trailing style contents rest h in
     style_read style (inlines_in (content_of_inlines contents)) (inlines_in (content_of_inlines rest))
     ∙ ap (λ x. articles.span style x (inlines_in (content_of_inlines rest)))
     (inlines_read (suc d) linked false contents b.0)
     ∙ ap (articles.span style contents) (inlines_read d linked false rest b.1)
-inlines_read d linked behind (link target contents rest) h =
-    let b = link_passed d linked behind target contents rest h in
+inlines_read d linked trailing (link target contents rest) h =
+    let b = link_passed d linked trailing target contents rest h in
     ap (λ x. link target x (inlines_in (content_of_inlines rest))) (inlines_read (suc d) true false contents b.1.1.0)
     ∙ ap (link target contents) (inlines_read d linked false rest b.1.1.1)
 

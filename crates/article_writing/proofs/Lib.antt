@@ -4,5 +4,5 @@ pub mod Documents
 pub mod InnerSizes
 pub mod Naming
 pub mod NumbersFitting
-pub mod Telling
+pub mod Emitting
 pub mod Texts

@@ -20,7 +20,10 @@ ghost use Rattle.article_writing.specs.Contents.{NumbersFit, article_text, artic
 ghost use Rattle.written_document_laws.specs.Documents.{HoldsNoNul, HoldsNoReturn};
 
 use html_render_dom::Handle;
-use written_document_laws::{a_document_is_walked, a_documents_tree_at_once, a_written_page_has_its_tree, no_text_is_two_documents};
+use written_document_laws::{
+    a_document_is_walked, a_documents_tree_at_once, a_written_page_has_its_tree,
+    no_text_is_two_documents,
+};
 
 /// What stands in the body for an article's blocks is a document's contents, and neither NUL nor CR stands in its
 /// title, its texts and its values: so the laws of written documents hold of it.

@@ -64,5 +64,9 @@ mod laws;
 mod names;
 mod writing;
 
-pub use laws::{ a_written_article_has_its_tree, accepted_articles_are_documents, an_article_is_written_back, bytes_of_an_article_have_its_tree, first_numbers_fit, no_text_is_two_articles, utf8_is_read_as_its_text, };
+pub use laws::{
+    a_written_article_has_its_tree, accepted_articles_are_documents, an_article_is_written_back,
+    bytes_of_an_article_have_its_tree, first_numbers_fit, no_text_is_two_articles,
+    utf8_is_read_as_its_text,
+};
 pub use writing::{SerializableArticle, WriteArticle};

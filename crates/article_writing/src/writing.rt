@@ -5,14 +5,16 @@ ghost use Rattle.article_values.specs.Articles.{Blocks as SeenBlocks};
 ghost use Rattle.article_values.specs.Faults.{first_fault};
 ghost use Rattle.article_writing.specs.Contents.{NumbersFit, article_text};
 
-use crate::elements::tell_element;
+use crate::elements::emit_element;
 use crate::inner::Inner;
+use crate::laws::{an_article_is_written_back, first_numbers_fit, no_text_is_two_articles};
 use article_values::Article;
 use html_lexemes::ByteWriter;
-use tree_serializer::{Serialize, SerializeFault, SerializeOpts, Serializer, TraversalScope, serialize};
 use std::alloc::Global;
-use written_document_laws::a_document_is_told;
-use crate::laws::{an_article_is_written_back, first_numbers_fit, no_text_is_two_articles};
+use tree_serializer::{
+    Serialize, SerializeFault, SerializeOpts, Serializer, TraversalScope, serialize,
+};
+use written_document_laws::a_document_is_emitted;
 
 /// An article, which can be emitted to a serializer as the page that is written of it (WHATWG HTML, 13.3).
 #[derive(Drop)]
@@ -35,10 +37,10 @@ impl Serialize for SerializableArticle<'_> {
         serializer: &mut S,
         _scope: &TraversalScope,
     ) -> Result<(), SerializeFault> {
-        a_document_is_told();
+        a_document_is_emitted();
         serializer.write_doctype("html")?;
         let root = Inner::Root(self.article.title(), self.article.blocks());
-        tell_element(alloc, serializer, "html", &[], root)
+        emit_element(alloc, serializer, "html", &[], root)
     }
 }
 

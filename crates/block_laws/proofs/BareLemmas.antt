@@ -2,8 +2,8 @@
 use Rattle.std.proofs.Common.{◌≡◌, ℕ, Bool, List, [], ◌∷◌, ◌++◌, map, ap, ◌∙◌, refl}
 use Rattle.std.specs.Prelude.{nat_lt, Option, None, Some}
 use Rattle.std.specs.Option.{option_map, option_and_then}
-use Rattle.text_decorators.specs.Marks.{Mark, strikeout_start, strikeout_end, image, link_end, preformat_first}
-use Rattle.text_decorators.specs.Marks.{preformat_further}
+use Rattle.text_decorators.specs.Marks.{Mark, image, link_end, preformat_first, preformat_further, strikeout_end}
+use Rattle.text_decorators.specs.Marks.{strikeout_start}
 use Rattle.text_lines.specs.Tagged.{characters}
 use Rattle.text_pieces.proofs.RetaggedItems.{chosen_by, characters_retagged}
 use Rattle.text_wrapping.proofs.BlockRetagged.{then_mapped, map_mapped}
@@ -12,30 +12,28 @@ use Rattle.text_borders.specs.Lines.{BlockLine, line_shown}
 use Rattle.text_borders.specs.Across.{Cell}
 use Rattle.text_borders.specs.Retagged.{reline, recell}
 use Rattle.text_borders.proofs.RowRetagged.{line_shown_retagged}
-use Rattle.block_layout.specs.Laid.{Laid, flush, add_empty_line, start_block, start_table, break_line, is_ignored}
-use Rattle.block_layout.specs.Laid.{start_awaited, add_text, add_horizontal_border, add_border}
+use Rattle.block_layout.specs.Laid.{Laid, add_border, add_empty_line, add_horizontal_border, add_text, break_line}
+use Rattle.block_layout.specs.Laid.{flush, is_ignored, start_awaited, start_block, start_table}
 use Rattle.block_layout.specs.LaidRows.{add_row, add_slashes}
 use Rattle.block_layout.specs.Retagged.{relaid}
-use Rattle.block_layout_laws.proofs.LaidRetagged.{flush_retagged, empty_line_retagged, start_block_retagged}
-use Rattle.block_layout_laws.proofs.LaidRetagged.{start_table_retagged, start_awaited_retagged, add_text_retagged}
-use Rattle.block_layout_laws.proofs.LaidRetagged.{mark_retagged, break_line_retagged, horizontal_retagged}
-use Rattle.block_layout_laws.proofs.LaidRetagged.{add_border_retagged, slashes_retagged, add_block_retagged}
-use Rattle.block_layout_laws.proofs.LaidRetagged.{add_row_retagged, finished_lines_retagged}
-use Rattle.block_trait.specs.Renderers.{Marking, Sub, measure_of, mode_of, with_laid, struck_text, text_added}
-use Rattle.block_trait.specs.Renderers.{tagged_added, preformatted_added, add_inline, with_held, pushed, popped}
-use Rattle.block_trait.specs.Renderers.{struck_more, struck_less, begin, finish, begin_link, finish_link}
-use Rattle.block_trait.specs.Renderers.{image_title, add_titled, begin_colour, finish_colour, flush_sub, with_block}
-use Rattle.block_trait.specs.Renderers.{append_sub, add_sub, cell_of_sub, before_cells, cells_of_subs, with_cells}
-use Rattle.block_trait.specs.Renderers.{add_cells, slashed, ruled, add_below, add_first, add_rows_below}
-use Rattle.block_trait.specs.Renderers.{lines_of_sub, on_laid, one_under, begin_strikeout, with_block_started}
-use Rattle.block_trait.specs.Renderers.{with_border_of}
+use Rattle.block_layout_laws.proofs.LaidRetagged.{add_block_retagged, add_border_retagged, add_row_retagged}
+use Rattle.block_layout_laws.proofs.LaidRetagged.{add_text_retagged, break_line_retagged, empty_line_retagged}
+use Rattle.block_layout_laws.proofs.LaidRetagged.{finished_lines_retagged, flush_retagged, horizontal_retagged}
+use Rattle.block_layout_laws.proofs.LaidRetagged.{mark_retagged, slashes_retagged, start_awaited_retagged}
+use Rattle.block_layout_laws.proofs.LaidRetagged.{start_block_retagged, start_table_retagged}
+use Rattle.block_trait.specs.Renderers.{Marking, Sub, add_below, add_cells, add_first, add_inline, add_rows_below}
+use Rattle.block_trait.specs.Renderers.{add_sub, add_titled, append_sub, before_cells, begin, begin_colour, begin_link}
+use Rattle.block_trait.specs.Renderers.{begin_strikeout, cell_of_sub, cells_of_subs, finish, finish_colour, finish_link}
+use Rattle.block_trait.specs.Renderers.{flush_sub, image_title, lines_of_sub, measure_of, mode_of, on_laid, one_under}
+use Rattle.block_trait.specs.Renderers.{popped, preformatted_added, pushed, ruled, slashed, struck_less, struck_more}
+use Rattle.block_trait.specs.Renderers.{struck_text, tagged_added, text_added, with_block, with_block_started}
+use Rattle.block_trait.specs.Renderers.{with_border_of, with_cells, with_held, with_laid}
 use Rattle.block_trait.specs.Texts.{line_text, text_of_lines}
-use Rattle.block_trait.specs.Calls.{Call, adds_empty_line, starts_block, starts_table, ends_block, ends_line}
-use Rattle.block_trait.specs.Calls.{breaks_line, adds_border, adds_border_of, starts_preformat, ends_preformat}
-use Rattle.block_trait.specs.Calls.{starts_mode, ends_mode, adds_text, starts_link, ends_link, starts_strikeout}
-use Rattle.block_trait.specs.Calls.{ends_strikeout, starts_mark, ends_mark, adds_image, starts_fragment}
-use Rattle.block_trait.specs.Calls.{starts_colour, ends_colour, adds_block, adds_cells, adds_rows_below, call_of}
-use Rattle.block_trait.specs.Calls.{step}
+use Rattle.block_trait.specs.Calls.{Call, adds_block, adds_border, adds_border_of, adds_cells, adds_empty_line}
+use Rattle.block_trait.specs.Calls.{adds_image, adds_rows_below, adds_text, breaks_line, call_of, ends_block}
+use Rattle.block_trait.specs.Calls.{ends_colour, ends_line, ends_link, ends_mark, ends_mode, ends_preformat}
+use Rattle.block_trait.specs.Calls.{ends_strikeout, starts_block, starts_colour, starts_fragment, starts_link}
+use Rattle.block_trait.specs.Calls.{starts_mark, starts_mode, starts_preformat, starts_strikeout, starts_table, step}
 use Rattle.block_trait.specs.Bare.{no_tag, bare_of}
 
 -- what is done to the lines alone
@@ -99,9 +97,9 @@ begin_link_bare m kind s =
 finish_link_bare : {H A : Type 0} (m : Marking H A) (kind : Mark) (s : Sub H A) → finish_link m kind (bare_of s)
     ≡ option_map bare_of (finish_link m kind s)
 finish_link_bare m kind s =
-    let behind = with_held (m.after s.held kind) s in
-    popped_bare (add_inline m (m.mark_text s.held kind) behind) (add_inline m (m.mark_text s.held kind) (bare_of behind))
-    (inline_bare m (m.mark_text s.held kind) behind)
+    let trailing = with_held (m.after s.held kind) s in
+    popped_bare (add_inline m (m.mark_text s.held kind) trailing) (add_inline m (m.mark_text s.held kind) (bare_of trailing))
+    (inline_bare m (m.mark_text s.held kind) trailing)
 
 strikeout_bare : {H A : Type 0} (m : Marking H A) (s : Sub H A) → begin_strikeout m (bare_of s)
     ≡ option_map bare_of (begin_strikeout m s)
@@ -119,16 +117,16 @@ titled_bare m source (Some title) s =
 begin_colour_bare : {H A : Type 0} (m : Marking H A) (kind : Mark) (s : Sub H A) → begin_colour m kind (bare_of s)
     ≡ bare_of (begin_colour m kind s)
 begin_colour_bare m kind s =
-    let behind = with_held (m.after s.held kind) s in
-    chosen_by bare_of (m.has_tag s.held kind) (m.has_tag s.held kind) (pushed (m.mark_tag s.held kind) behind) behind
-    (pushed (m.mark_tag s.held kind) (bare_of behind)) (bare_of behind) refl refl refl
+    let trailing = with_held (m.after s.held kind) s in
+    chosen_by bare_of (m.has_tag s.held kind) (m.has_tag s.held kind) (pushed (m.mark_tag s.held kind) trailing) trailing
+    (pushed (m.mark_tag s.held kind) (bare_of trailing)) (bare_of trailing) refl refl refl
 
 finish_colour_bare : {H A : Type 0} (m : Marking H A) (kind : Mark) (s : Sub H A) → finish_colour m kind (bare_of s)
     ≡ bare_of (finish_colour m kind s)
 finish_colour_bare m kind s =
-    let behind = with_held (m.after s.held kind) s in
-    chosen_by bare_of (m.ends_tag s.held kind) (m.ends_tag s.held kind) (popped behind) behind (popped (bare_of behind))
-    (bare_of behind) refl refl refl
+    let trailing = with_held (m.after s.held kind) s in
+    chosen_by bare_of (m.ends_tag s.held kind) (m.ends_tag s.held kind) (popped trailing) trailing (popped (bare_of trailing))
+    (bare_of trailing) refl refl refl
 
 -- ---- other blocks
 

@@ -1,4 +1,5 @@
--- Lines after a page have the same characters in a renderer that keeps no annotations, where they stand under their own.
+-- Lines after a page have the same characters in a renderer that keeps no annotations, where they stand under their
+-- own.
 use Rattle.std.proofs.Common.{◌≡◌, List, [], ◌∷◌, map, sym, ap, ◌∙◌, refl}
 use Rattle.std.specs.Prelude.{Option, None, Some, fold}
 use Rattle.std.specs.Option.{option_map}

@@ -1,6 +1,6 @@
 -- Each call of a renderer that fits keeps its lines within its width.
-use Rattle.std.proofs.Common.{◌≡◌, ℕ, ◌+◌, ◌≤◌, Bool, true, false, List, [], ◌∷◌, Option, None, Some, IfSome, ap, ◌∙◌}
-use Rattle.std.proofs.Common.{refl, sym, subst, arith}
+use Rattle.std.proofs.Common.{◌≡◌, ◌+◌, ◌≤◌, [], ◌∷◌, ◌∙◌, Bool, IfSome, List, None, Option, Some, ap, arith, false}
+use Rattle.std.proofs.Common.{refl, subst, sym, true, ℕ}
 use Rattle.std.specs.Prelude.{All, fold, nat_lt, if◌then◌else◌}
 use Rattle.std.specs.Option.{option_map, option_and_then}
 use Rattle.std.proofs.lemmas.List.{length-replicate}
@@ -16,25 +16,25 @@ use Rattle.text_borders.specs.Lines.{border}
 use Rattle.text_borders.specs.Across.{Cell, CellLine, width_across}
 use Rattle.text_borders.specs.AcrossLaws.{LineFits, CellFits}
 use Rattle.block_layout.specs.declared.measure.Measure.{Measure}
-use Rattle.block_layout.specs.Laid.{Laid, add_text_lines, add_empty_line, start_block, start_table, end_block, flush}
-use Rattle.block_layout.specs.Laid.{break_line, is_ignored, start_awaited, add_text, mark, add_border}
-use Rattle.block_layout.specs.Laid.{add_horizontal_border, add_block}
+use Rattle.block_layout.specs.Laid.{Laid, add_block, add_border, add_empty_line, add_horizontal_border, add_text}
+use Rattle.block_layout.specs.Laid.{add_text_lines, break_line, end_block, flush, is_ignored, mark, start_awaited}
+use Rattle.block_layout.specs.Laid.{start_block, start_table}
 use Rattle.block_layout.specs.LaidRows.{add_row, row_laid, add_slashes, last_border}
 use Rattle.block_layout_laws.specs.LayoutLaws.{IsKept, IsWithin}
 use Rattle.block_layout_laws.proofs.OptionLemmas.{known, mapped, chained}
-use Rattle.block_trait.specs.Renderers.{Marking, Sub, measure_of, mode_of, with_laid, on_laid, struck_text}
-use Rattle.block_trait.specs.Renderers.{preformatted_added, tagged_added, text_added, add_inline, with_held, pushed}
-use Rattle.block_trait.specs.Renderers.{popped, struck_more, struck_less, begin, finish, begin_link, finish_link}
-use Rattle.block_trait.specs.Renderers.{begin_strikeout, image_title, add_titled, begin_colour, finish_colour}
-use Rattle.block_trait.specs.Renderers.{flush_sub, with_block, append_sub, add_sub, cell_of_sub, before_cells}
-use Rattle.block_trait.specs.Renderers.{cells_of_subs, with_cells, add_cells, slashed, ruled, add_below, add_first}
-use Rattle.block_trait.specs.Renderers.{add_rows_below}
-use Rattle.block_trait.specs.Calls.{Call, adds_empty_line, starts_block, starts_table, ends_block, ends_line}
-use Rattle.block_trait.specs.Calls.{breaks_line, adds_border, adds_border_of, starts_preformat, ends_preformat}
-use Rattle.block_trait.specs.Calls.{starts_mode, ends_mode, adds_text, starts_link, ends_link, starts_strikeout}
-use Rattle.block_trait.specs.Calls.{ends_strikeout, starts_mark, ends_mark, adds_image, starts_fragment}
-use Rattle.block_trait.specs.Calls.{starts_colour, ends_colour, adds_block, adds_cells, adds_rows_below, step}
-use Rattle.block_laws.specs.RendererLaws.{IsKeptWithin, StaysWithin, FitsBehind, RowFits, CallFits, AllFit, after}
+use Rattle.block_trait.specs.Renderers.{Marking, Sub, add_below, add_cells, add_first, add_inline, add_rows_below}
+use Rattle.block_trait.specs.Renderers.{add_sub, add_titled, append_sub, before_cells, begin, begin_colour, begin_link}
+use Rattle.block_trait.specs.Renderers.{begin_strikeout, cell_of_sub, cells_of_subs, finish, finish_colour, finish_link}
+use Rattle.block_trait.specs.Renderers.{flush_sub, image_title, measure_of, mode_of, on_laid, popped}
+use Rattle.block_trait.specs.Renderers.{preformatted_added, pushed, ruled, slashed, struck_less, struck_more}
+use Rattle.block_trait.specs.Renderers.{struck_text, tagged_added, text_added, with_block, with_cells, with_held}
+use Rattle.block_trait.specs.Renderers.{with_laid}
+use Rattle.block_trait.specs.Calls.{Call, adds_block, adds_border, adds_border_of, adds_cells, adds_empty_line}
+use Rattle.block_trait.specs.Calls.{adds_image, adds_rows_below, adds_text, breaks_line, ends_block, ends_colour}
+use Rattle.block_trait.specs.Calls.{ends_line, ends_link, ends_mark, ends_mode, ends_preformat, ends_strikeout}
+use Rattle.block_trait.specs.Calls.{starts_block, starts_colour, starts_fragment, starts_link, starts_mark, starts_mode}
+use Rattle.block_trait.specs.Calls.{starts_preformat, starts_strikeout, starts_table, step}
+use Rattle.block_laws.specs.RendererLaws.{IsKeptWithin, StaysWithin, FitsAfter, RowFits, CallFits, AllFit, after}
 
 -- what the crate below says of blocks
 pub record WidthLaws (S : Type 0) : Type 0 where
@@ -80,7 +80,7 @@ stays : {H A : Type 0} (s : Sub H A) → IsKeptWithin s → StaysWithin s s
 stays s kept = (kept, (refl, refl))
 
 stays_on : {H A : Type 0} (s x new : Sub H A) → StaysWithin s x → StaysWithin x new → StaysWithin s new
-stays_on s x new before behind = (behind.0, (behind.1.0 ∙ before.1.0, behind.1.1 ∙ before.1.1))
+stays_on s x new before trailing = (trailing.0, (trailing.1.0 ∙ before.1.0, trailing.1.1 ∙ before.1.1))
 
 -- other lines, under the same measure
 relaid : {H A : Type 0} (s : Sub H A) (b : Laid (List A)) → IsKeptWithin s → IsWithin (measure_of s) b
@@ -99,8 +99,8 @@ laid_by s o kept law = laid_on s o kept (known (IsWithin (measure_of s)) o law)
 
 stays_from : {H A : Type 0} (s x : Sub H A) (o : Option (Sub H A)) → StaysWithin s x → IfSome o (StaysWithin x)
     → IfSome o (StaysWithin s)
-stays_from s x None before behind = tt
-stays_from s x (Some new) before behind = stays_on s x new before behind
+stays_from s x None before trailing = tt
+stays_from s x (Some new) before trailing = stays_on s x new before trailing
 
 -- two steps
 stays_through : {H A : Type 0} (s : Sub H A) (o : Option (Sub H A)) (f : Sub H A → Option (Sub H A))
@@ -214,25 +214,25 @@ fits_in : (front width most new : ℕ) → new ≡ most → front + width ≤ mo
 fits_in front width most new e fits = omega (arith, e, fits)
 
 appended : {H A : Type 0} (laws : WidthLaws (List A)) (other : Sub H A) (first following : List ℕ) (s : Sub H A)
-    → IsKeptWithin other → FitsBehind first other s → FitsBehind following other s → IsKeptWithin s
+    → IsKeptWithin other → FitsAfter first other s → FitsAfter following other s → IsKeptWithin s
     → IfSome (append_sub other first following s) (StaysWithin s)
-appended laws other first following s taken here behind kept =
+appended laws other first following s taken here trailing kept =
     mapped (StaysWithin other) (StaysWithin s) (with_block s first following) (flush_sub other)
     (λ x inside. relaid s
     (add_block (measure_of x) (measure_of s) s.annotations first following x.laid.lines s.laid) kept
     (laws.block_taken (measure_of x) (measure_of s) s.annotations first following x.laid.lines s.laid kept.1
     inside.0.1.lines (fits_as (text_columns first) other.width x.width s.width inside.1.0 here)
-    (fits_as (text_columns following) other.width x.width s.width inside.1.0 behind)))
+    (fits_as (text_columns following) other.width x.width s.width inside.1.0 trailing)))
     (sub_flushed laws other taken)
 
 sub_added : {H A : Type 0} (laws : WidthLaws (List A)) (other : Sub H A) (first following : List ℕ) (s : Sub H A)
-    → IsKeptWithin other → FitsBehind first other s → FitsBehind following other s → IsKeptWithin s
+    → IsKeptWithin other → FitsAfter first other s → FitsAfter following other s → IsKeptWithin s
     → IfSome (add_sub other first following s) (StaysWithin s)
-sub_added laws other first following s taken here behind kept =
+sub_added laws other first following s taken here trailing kept =
     stays_through s (flush_sub s) (append_sub other first following)
     (λ x inside. appended laws other first following x taken
     (fits_in (text_columns first) other.width s.width x.width inside.1.0 here)
-    (fits_in (text_columns following) other.width s.width x.width inside.1.0 behind) inside.0)
+    (fits_in (text_columns following) other.width s.width x.width inside.1.0 trailing) inside.0)
     (sub_flushed laws s kept)
 
 -- ---- rows

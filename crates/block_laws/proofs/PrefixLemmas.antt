@@ -2,10 +2,10 @@
 use Rattle.std.proofs.Common.{◌≡◌, ℕ, ◌+◌, ◌-◌, ◌≤◌, Bool, true, false, None, Some, IfSome, refl, arith}
 use Rattle.std.specs.Prelude.{nat_le, max, IsSome, if◌then◌else◌}
 use Rattle.std.proofs.lemmas.Bool.Decides.{nat_tests}
-use Rattle.block_trait.specs.Renderers.{Sub, room_behind}
+use Rattle.block_trait.specs.Renderers.{Sub, room_after}
 
 pub within : {H A : Type 0} (prefix least : ℕ) (s : Sub H A) → s.options.allow_width_overflow ≡ false
-    → IfSome (room_behind prefix least s) (λ n. (prefix + n ≡ s.width) × ((1 ≤ n) × (least ≤ n)))
+    → IfSome (room_after prefix least s) (λ n. (prefix + n ≡ s.width) × ((1 ≤ n) × (least ≤ n)))
 within prefix least s off =
     by_room (nat_le (max least 1) (s.width - prefix)) refl s.options.allow_width_overflow off
   where
@@ -20,7 +20,7 @@ within prefix least s off =
     by_room false fits false off = tt
 
 pub beyond : {H A : Type 0} (prefix least : ℕ) (s : Sub H A) → s.options.allow_width_overflow ≡ true
-    → IsSome (room_behind prefix least s)
+    → IsSome (room_after prefix least s)
 beyond prefix least s on =
     by_room (nat_le (max least 1) (s.width - prefix)) s.options.allow_width_overflow on
   where

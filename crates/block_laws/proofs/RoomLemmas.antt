@@ -11,24 +11,24 @@ use Rattle.block_renderer.specs.Footnotes.{add_footnote, add_footnotes}
 use Rattle.text_borders.specs.Borders.{Border, plain, horizontal}
 use Rattle.text_borders.specs.Across.{Cell, CellLine}
 use Rattle.block_layout.specs.declared.measure.Measure.{Measure}
-use Rattle.block_layout.specs.Laid.{Laid, add_text_lines, add_empty_line, start_block, start_table, end_block, flush}
-use Rattle.block_layout.specs.Laid.{break_line, is_ignored, start_awaited, add_text, mark, add_border}
-use Rattle.block_layout.specs.Laid.{add_horizontal_border, add_block}
+use Rattle.block_layout.specs.Laid.{Laid, add_block, add_border, add_empty_line, add_horizontal_border, add_text}
+use Rattle.block_layout.specs.Laid.{add_text_lines, break_line, end_block, flush, is_ignored, mark, start_awaited}
+use Rattle.block_layout.specs.Laid.{start_block, start_table}
 use Rattle.block_layout.specs.LaidRows.{add_row, add_slashes}
 use Rattle.block_layout_laws.specs.LayoutLaws.{AllowsOverflow}
 use Rattle.block_layout_laws.proofs.OptionLemmas.{given_mapped, given_chained}
-use Rattle.block_trait.specs.Renderers.{Marking, Sub, measure_of, mode_of, with_laid, on_laid, struck_text}
-use Rattle.block_trait.specs.Renderers.{preformatted_added, tagged_added, text_added, add_inline, with_held, pushed}
-use Rattle.block_trait.specs.Renderers.{popped, struck_more, struck_less, begin, finish, begin_link, finish_link}
-use Rattle.block_trait.specs.Renderers.{begin_strikeout, image_title, add_titled, begin_colour, finish_colour}
-use Rattle.block_trait.specs.Renderers.{flush_sub, with_block, append_sub, add_sub, cell_of_sub, before_cells}
-use Rattle.block_trait.specs.Renderers.{cells_of_subs, with_cells, add_cells, slashed, ruled, add_below, add_first}
-use Rattle.block_trait.specs.Renderers.{add_rows_below}
-use Rattle.block_trait.specs.Calls.{Call, adds_empty_line, starts_block, starts_table, ends_block, ends_line}
-use Rattle.block_trait.specs.Calls.{breaks_line, adds_border, adds_border_of, starts_preformat, ends_preformat}
-use Rattle.block_trait.specs.Calls.{starts_mode, ends_mode, adds_text, starts_link, ends_link, starts_strikeout}
-use Rattle.block_trait.specs.Calls.{ends_strikeout, starts_mark, ends_mark, adds_image, starts_fragment}
-use Rattle.block_trait.specs.Calls.{starts_colour, ends_colour, adds_block, adds_cells, adds_rows_below, step}
+use Rattle.block_trait.specs.Renderers.{Marking, Sub, add_below, add_cells, add_first, add_inline, add_rows_below}
+use Rattle.block_trait.specs.Renderers.{add_sub, add_titled, append_sub, before_cells, begin, begin_colour, begin_link}
+use Rattle.block_trait.specs.Renderers.{begin_strikeout, cell_of_sub, cells_of_subs, finish, finish_colour, finish_link}
+use Rattle.block_trait.specs.Renderers.{flush_sub, image_title, measure_of, mode_of, on_laid, popped}
+use Rattle.block_trait.specs.Renderers.{preformatted_added, pushed, ruled, slashed, struck_less, struck_more}
+use Rattle.block_trait.specs.Renderers.{struck_text, tagged_added, text_added, with_block, with_cells, with_held}
+use Rattle.block_trait.specs.Renderers.{with_laid}
+use Rattle.block_trait.specs.Calls.{Call, adds_block, adds_border, adds_border_of, adds_cells, adds_empty_line}
+use Rattle.block_trait.specs.Calls.{adds_image, adds_rows_below, adds_text, breaks_line, ends_block, ends_colour}
+use Rattle.block_trait.specs.Calls.{ends_line, ends_link, ends_mark, ends_mode, ends_preformat, ends_strikeout}
+use Rattle.block_trait.specs.Calls.{starts_block, starts_colour, starts_fragment, starts_link, starts_mark, starts_mode}
+use Rattle.block_trait.specs.Calls.{starts_preformat, starts_strikeout, starts_table, step}
 use Rattle.block_laws.specs.RendererLaws.{HasRoom, CallHasRoom, after}
 
 -- what the crate below says of blocks

@@ -18,8 +18,8 @@ abbrev pub StaysWithin : {H A : Type 0} → Sub H A → Sub H A → Type 0
 StaysWithin old new = IsKeptWithin new × ((new.width ≡ old.width) × (new.options ≡ old.options))
 
 -- The other renderer fits after the prefix.
-abbrev pub FitsBehind : {H A : Type 0} → List ℕ → Sub H A → Sub H A → Type 0
-FitsBehind prefix other s = text_columns prefix + other.width ≤ s.width
+abbrev pub FitsAfter : {H A : Type 0} → List ℕ → Sub H A → Sub H A → Type 0
+FitsAfter prefix other s = text_columns prefix + other.width ≤ s.width
 
 -- the row of these cells, with those that go on from the row above it, is within the width
 abbrev pub RowFits : {H A : Type 0} → List (Sub H A × ℕ) → Bool → Sub H A → Type 0
@@ -31,7 +31,7 @@ RowFits {H} {A} cells collapse s = (flushed : Laid (List A)) (row : List (Cell (
 abbrev pub CallFits : {H A : Type 0} → Call (Sub H A) → Sub H A → Type 0
 CallFits (adds_border_of width) s = width ≤ s.width
 CallFits (adds_block other first following) s =
-    IsKeptWithin other × (FitsBehind first other s × FitsBehind following other s)
+    IsKeptWithin other × (FitsAfter first other s × FitsAfter following other s)
 CallFits (adds_cells cells collapse) s = All (λ c. IsKeptWithin c.0) cells × RowFits cells collapse s
 CallFits (adds_rows_below cells) s = All (λ c. IsKeptWithin c × (c.width ≤ s.width)) cells
 CallFits _ s = Unit

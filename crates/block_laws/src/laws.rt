@@ -4,15 +4,15 @@ ghost use Rattle.std.specs.Prelude.{◌≡◌, ℕ, ◌+◌, ◌≤◌, All, tru
 ghost use Rattle.text_lines.specs.Tagged.{Item, line_columns};
 ghost use Rattle.text_borders.specs.Lines.{BlockLine, line_shown};
 ghost use Rattle.block_trait.specs.declared.options.RenderOptions.{RenderOptions};
-ghost use Rattle.block_trait.specs.Renderers.{Marking, Sub, new_sub, lines_of_sub, room_behind};
+ghost use Rattle.block_trait.specs.Renderers.{Marking, Sub, new_sub, lines_of_sub, room_after};
 ghost use Rattle.block_trait.specs.Calls.{Call, step};
 ghost use Rattle.block_renderer.specs.Footnotes.{add_footnotes};
-ghost use Rattle.block_laws.specs.RendererLaws.{IsKeptWithin, StaysWithin, CallFits, after, AllFit, HasRoom};
-ghost use Rattle.block_laws.specs.RendererLaws.{CallHasRoom};
+ghost use Rattle.block_laws.specs.RendererLaws.{AllFit, CallFits, CallHasRoom, HasRoom, IsKeptWithin, StaysWithin};
+ghost use Rattle.block_laws.specs.RendererLaws.{after};
 
-use text_footnotes::footnotes_keep_the_width;
 use block_layout_laws::{calls_keep_the_width, overflow_never_refuses};
 use text_decorators::TextDecorator;
+use text_footnotes::footnotes_keep_the_width;
 
 /// No line of a renderer passes its width where no character may overflow: so it is with a new renderer, each call that
 /// fits and comes to a renderer keeps it so, at the same width and under the same options, and so do calls in turn; and
@@ -56,7 +56,7 @@ pub fn renderers_with_room_never_refuse<D: TextDecorator>()
 /// and at least what was asked for. Where it may, there is always room.
 pub fn a_prefix_and_its_room_are_the_width<D: TextDecorator>()
     ensures within { (prefix least : ℕ) (s : Sub D.Held D.Annotation.Seen) → s.options.allow_width_overflow ≡ false
-        → IfSome (room_behind prefix least s) (λ n. (prefix + n ≡ s.width) × ((1 ≤ n) × (least ≤ n))) }
+        → IfSome (room_after prefix least s) (λ n. (prefix + n ≡ s.width) × ((1 ≤ n) × (least ≤ n))) }
     ensures beyond { (prefix least : ℕ) (s : Sub D.Held D.Annotation.Seen) → s.options.allow_width_overflow ≡ true
-        → IsSome (room_behind prefix least s) }
+        → IsSome (room_after prefix least s) }
 {}

@@ -11,13 +11,13 @@ ghost use Rattle.block_layout.specs.Seen.{AreLinesJoined};
 
 use crate::measure::Measure;
 use std::alloc::{AllocError, Global};
-use text_lines::{EqualCopy, TaggedLine};
 use text_borders::{BorderHoriz, RenderLine};
 use text_cells::LaidLine;
+use text_lines::{EqualCopy, TaggedLine};
 use text_wrapping::pad;
 
 /// The line after markers.
-pub(crate) fn behind_names<T: EqualCopy + Drop>(
+pub(crate) fn after_names<T: EqualCopy + Drop>(
     waiting: &[String],
     line: TaggedLine<T>,
 ) -> Result<TaggedLine<T>, AllocError>

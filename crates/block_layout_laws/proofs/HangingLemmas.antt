@@ -9,12 +9,12 @@ use Rattle.text_wrapping.specs.Blocks.{added, broken}
 use Rattle.text_borders.specs.Borders.{Border, horizontal, plain}
 use Rattle.text_borders.specs.Across.{CellLine, Cell, across}
 use Rattle.block_layout.specs.declared.measure.Measure.{Measure}
-use Rattle.block_layout.specs.Laid.{Running, Laid, add_border, add_text_line, add_text_lines, without_running}
-use Rattle.block_layout.specs.Laid.{laid_text, text_laid, flush_of, flush, started, behind_empty_line, add_empty_line}
-use Rattle.block_layout.specs.Laid.{parted, start_block, without_hanging, start_table, running_or_new, with_added}
-use Rattle.block_layout.specs.Laid.{with_running, run_on, runs_otherwise, enter_mode, add_text, start_awaited}
-use Rattle.block_layout.specs.Laid.{with_text_of, broken_line, break_of, break_line, has_content, add_horizontal_border}
-use Rattle.block_layout.specs.Laid.{add_prefixed, add_block}
+use Rattle.block_layout.specs.Laid.{Laid, Running, add_block, add_border, add_empty_line, add_horizontal_border}
+use Rattle.block_layout.specs.Laid.{add_prefixed, add_text, add_text_line, add_text_lines, after_empty_line, break_line}
+use Rattle.block_layout.specs.Laid.{break_of, broken_line, enter_mode, flush, flush_of, has_content, laid_text, parted}
+use Rattle.block_layout.specs.Laid.{run_on, running_or_new, runs_otherwise, start_awaited, start_block, start_table}
+use Rattle.block_layout.specs.Laid.{started, text_laid, with_added, with_running, with_text_of, without_hanging}
+use Rattle.block_layout.specs.Laid.{without_running}
 use Rattle.block_layout.specs.LaidRows.{last_border, row_laid, add_row}
 use Rattle.block_layout_laws.proofs.OptionLemmas.{mapped, chained}
 
@@ -40,13 +40,13 @@ pub flush_hangs : {S : Type 0} (m : Measure) (tag : S) (b : Laid S) → IfSome (
 flush_hangs m tag b = of_hangs m tag b.running (without_running b)
 
 pub empty_line_hangs : {S : Type 0} (m : Measure) (tag : S) (b : Laid S) → IfSome (add_empty_line m tag b) (Hangs b)
-empty_line_hangs m tag b = mapped (Hangs b) (Hangs b) (behind_empty_line m tag) (flush m tag b) (λ x h. h)
+empty_line_hangs m tag b = mapped (Hangs b) (Hangs b) (after_empty_line m tag) (flush m tag b) (λ x h. h)
     (flush_hangs m tag b)
 
 parted_hangs : {S : Type 0} (m : Measure) (tag : S) (b x : Laid S) → Hangs b x → Hangs b (parted m tag x)
 parted_hangs {S = S} m tag b x h = by_content (has_content x.lines)
   where
-    by_content : (c : Bool) → Hangs b (if c then behind_empty_line m tag x else started x)
+    by_content : (c : Bool) → Hangs b (if c then after_empty_line m tag x else started x)
     by_content true = h
     by_content false = h
 

@@ -10,25 +10,25 @@ use Rattle.text_pieces.specs.declared.white_space.WhiteSpace.{WhiteSpace}
 use Rattle.text_pieces.proofs.RetaggedItems.{chosen_by, folded, has_text_retagged}
 use Rattle.text_wrapping.specs.Blocks.{Block, padded, added, fragments_taken, ended_lines, broken}
 use Rattle.text_wrapping.specs.Retagged.{reblock, reblocked}
-use Rattle.text_wrapping.proofs.BlockRetagged.{then_mapped, map_mapped, padded_retagged, added_retagged}
-use Rattle.text_wrapping.proofs.BlockRetagged.{marked_retagged}
-use Rattle.text_wrapping.proofs.BlockRetagged.{taken_retagged, ended_lines_retagged, broken_retagged, columns_retagged}
+use Rattle.text_wrapping.proofs.BlockRetagged.{added_retagged, broken_retagged, columns_retagged, ended_lines_retagged}
+use Rattle.text_wrapping.proofs.BlockRetagged.{map_mapped, marked_retagged, padded_retagged, taken_retagged}
+use Rattle.text_wrapping.proofs.BlockRetagged.{then_mapped}
 use Rattle.text_borders.specs.Borders.{Border, Hole, has_holes, is_filled as holds_any, plain, horizontal, filled_to}
 use Rattle.text_borders.specs.Lines.{BlockLine, text, border}
 use Rattle.text_borders.specs.Across.{CellLine, Cell, Hanging, Row, as_text, across}
 use Rattle.text_borders.specs.Retagged.{reitem, rehole, reborder, reline, recell_line, recell, rehanging, rerow}
 use Rattle.text_borders.proofs.RowRetagged.{tagged_retagged, filled_to_retagged, as_text_retagged, across_retagged}
 use Rattle.block_layout.specs.declared.measure.Measure.{Measure}
-use Rattle.block_layout.specs.Laid.{Running, Laid, padding, with_line, add_line, add_border, has_content, add_text_line}
-use Rattle.block_layout.specs.Laid.{add_text_lines, with_markers, without_running, lines_behind, laid_text, text_laid}
-use Rattle.block_layout.specs.Laid.{flush_of, flush, started, behind_empty_line, add_empty_line, parted, start_block}
-use Rattle.block_layout.specs.Laid.{without_hanging, start_table, end_block, running_or_new, with_added, with_marker}
-use Rattle.block_layout.specs.Laid.{with_text, with_running, run_on, runs_otherwise, enter_mode, add_text}
-use Rattle.block_layout.specs.Laid.{start_awaited, mark, with_text_of, broken_line, break_of, break_line}
-use Rattle.block_layout.specs.Laid.{has_no_text, is_nothing, add_horizontal_border, finished, content_as_text}
-use Rattle.block_layout.specs.Laid.{add_prefixed, add_block, finished_lines}
-use Rattle.block_layout.specs.LaidRows.{border_line, last_border, before_last, without_last_border, with_border}
-use Rattle.block_layout.specs.LaidRows.{add_row_line, add_row_lines, with_row, row_laid, add_row, add_slashes}
+use Rattle.block_layout.specs.Laid.{Laid, Running, add_block, add_border, add_empty_line, add_horizontal_border}
+use Rattle.block_layout.specs.Laid.{add_line, add_prefixed, add_text, add_text_line, add_text_lines, after_empty_line}
+use Rattle.block_layout.specs.Laid.{break_line, break_of, broken_line, content_as_text, end_block, enter_mode, finished}
+use Rattle.block_layout.specs.Laid.{finished_lines, flush, flush_of, has_content, has_no_text, is_nothing, laid_text}
+use Rattle.block_layout.specs.Laid.{lines_after, mark, padding, parted, run_on, running_or_new, runs_otherwise}
+use Rattle.block_layout.specs.Laid.{start_awaited, start_block, start_table, started, text_laid, with_added, with_line}
+use Rattle.block_layout.specs.Laid.{with_marker, with_markers, with_running, with_text, with_text_of, without_hanging}
+use Rattle.block_layout.specs.Laid.{without_running}
+use Rattle.block_layout.specs.LaidRows.{add_row, add_row_line, add_row_lines, add_slashes, before_last, border_line}
+use Rattle.block_layout.specs.LaidRows.{last_border, row_laid, with_border, with_row, without_last_border}
 use Rattle.block_layout.specs.Retagged.{rerunning, relaid}
 
 -- ---- lines
@@ -116,9 +116,9 @@ text_lines_retagged f m tag fill lines b =
 abbrev relines : {A B X : Type 0} → (A → B) → X × List (List (Item A)) → X × List (List (Item B))
 relines f r = (r.0, map (map (reitem f)) r.1)
 
-lines_behind_retagged : {A B : Type 0} (f : A → B) (taken : List (List ℕ) × Block A)
-    → lines_behind (reblocked f taken) ≡ option_map (relines f) (lines_behind taken)
-lines_behind_retagged f taken =
+lines_after_retagged : {A B : Type 0} (f : A → B) (taken : List (List ℕ) × Block A)
+    → lines_after (reblocked f taken) ≡ option_map (relines f) (lines_after taken)
+lines_after_retagged f taken =
     ap (option_map (λ lines. (taken.0, lines))) (ended_lines_retagged f taken.1)
     ∙ map_mapped (λ lines. (taken.0, lines)) (λ lines. (taken.0, lines)) (map (map (reitem f))) (relines f)
     (λ lines. refl) (ended_lines taken.1)
@@ -126,8 +126,8 @@ lines_behind_retagged f taken =
 laid_text_retagged : {A B : Type 0} (f : A → B) (source : Block A) → laid_text (reblock f source)
     ≡ option_map (relines f) (laid_text source)
 laid_text_retagged f source =
-    ap (option_and_then lines_behind) (taken_retagged f source)
-    ∙ then_mapped lines_behind lines_behind (reblocked f) (relines f) (lines_behind_retagged f) (fragments_taken source)
+    ap (option_and_then lines_after) (taken_retagged f source)
+    ∙ then_mapped lines_after lines_after (reblocked f) (relines f) (lines_after_retagged f) (fragments_taken source)
 
 text_laid_retagged : {A B : Type 0} (f : A → B) (m : Measure) (tag fill : A) (b : Laid A)
     (laid : List (List ℕ) × List (List (Item A)))
@@ -147,33 +147,33 @@ pub flush_retagged : {A B : Type 0} (f : A → B) (m : Measure) (tag : A) (b : L
 flush_retagged f m tag b = flush_of_retagged f m tag b.running (without_running b)
 
 -- what is done after a flush
-behind_flush : {A B : Type 0} (f : A → B) (m : Measure) (tag : A) (b : Laid A) (g : Laid A → Laid A)
+after_flush : {A B : Type 0} (f : A → B) (m : Measure) (tag : A) (b : Laid A) (g : Laid A → Laid A)
     (h : Laid B → Laid B) → ((x : Laid A) → h (relaid f x) ≡ relaid f (g x))
     → option_map h (flush m (f tag) (relaid f b)) ≡ option_map (relaid f) (option_map g (flush m tag b))
-behind_flush f m tag b g h same =
+after_flush f m tag b g h same =
     ap (option_map h) (flush_retagged f m tag b) ∙ map_mapped g h (relaid f) (relaid f) same (flush m tag b)
 
 -- ---- blocks
 
 empty_retagged : {A B : Type 0} (f : A → B) (m : Measure) (tag : A) (b : Laid A)
-    → behind_empty_line m (f tag) (relaid f b) ≡ relaid f (behind_empty_line m tag b)
+    → after_empty_line m (f tag) (relaid f b) ≡ relaid f (after_empty_line m tag b)
 empty_retagged f m tag b = ap (λ x. started x) (add_line_retagged f m tag false [] b)
 
 pub empty_line_retagged : {A B : Type 0} (f : A → B) (m : Measure) (tag : A) (b : Laid A)
     → add_empty_line m (f tag) (relaid f b) ≡ option_map (relaid f) (add_empty_line m tag b)
 empty_line_retagged f m tag b =
-    behind_flush f m tag b (behind_empty_line m tag) (behind_empty_line m (f tag)) (empty_retagged f m tag)
+    after_flush f m tag b (after_empty_line m tag) (after_empty_line m (f tag)) (empty_retagged f m tag)
 
 parted_retagged : {A B : Type 0} (f : A → B) (m : Measure) (tag : A) (b : Laid A) → parted m (f tag) (relaid f b)
     ≡ relaid f (parted m tag b)
 parted_retagged f m tag b =
-    chosen_by (relaid f) (has_content b.lines) (has_content (map (recell_line f) b.lines)) (behind_empty_line m tag b)
-    (started b) (behind_empty_line m (f tag) (relaid f b)) (started (relaid f b)) (content_retagged f b.lines)
+    chosen_by (relaid f) (has_content b.lines) (has_content (map (recell_line f) b.lines)) (after_empty_line m tag b)
+    (started b) (after_empty_line m (f tag) (relaid f b)) (started (relaid f b)) (content_retagged f b.lines)
     (empty_retagged f m tag b) refl
 
 pub start_block_retagged : {A B : Type 0} (f : A → B) (m : Measure) (tag : A) (b : Laid A)
     → start_block m (f tag) (relaid f b) ≡ option_map (relaid f) (start_block m tag b)
-start_block_retagged f m tag b = behind_flush f m tag b (parted m tag) (parted m (f tag)) (parted_retagged f m tag)
+start_block_retagged f m tag b = after_flush f m tag b (parted m tag) (parted m (f tag)) (parted_retagged f m tag)
 
 pub start_table_retagged : {A B : Type 0} (f : A → B) (m : Measure) (tag : A) (b : Laid A)
     → start_table m (f tag) (relaid f b) ≡ option_map (relaid f) (start_table m tag b)
@@ -290,7 +290,7 @@ pub horizontal_retagged : {A B : Type 0} (f : A → B) (m : Measure) (tag : A) (
     → add_horizontal_border m (f tag) width (relaid f b)
     ≡ option_map (relaid f) (add_horizontal_border m tag width b)
 horizontal_retagged f m tag width b =
-    behind_flush f m tag b (add_border (plain horizontal width tag)) (add_border (plain horizontal width (f tag)))
+    after_flush f m tag b (add_border (plain horizontal width tag)) (add_border (plain horizontal width (f tag)))
     (add_border_retagged f (plain horizontal width tag))
 
 finished_retagged : {A B : Type 0} (f : A → B) (m : Measure) (line : BlockLine A) → finished m (reline f line)
@@ -431,7 +431,7 @@ pub add_row_retagged : {A B : Type 0} (f : A → B) (m : Measure) (tag : A) (dra
     → add_row m (f tag) draws collapse (map (recell f) cells) (relaid f b)
     ≡ option_map (relaid f) (add_row m tag draws collapse cells b)
 add_row_retagged f m tag draws collapse cells b =
-    behind_flush f m tag b (row_laid m tag draws collapse cells)
+    after_flush f m tag b (row_laid m tag draws collapse cells)
     (row_laid m (f tag) draws collapse (map (recell f) cells)) (row_laid_retagged f m tag draws collapse cells)
 
 pub slashes_retagged : {A B : Type 0} (f : A → B) (width : ℕ) (tag : A) (b : Laid A)

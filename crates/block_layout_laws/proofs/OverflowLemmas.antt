@@ -1,6 +1,6 @@
 -- Where a character that is wider than the lines may stand alone on one, no call is refused.
-use Rattle.std.proofs.Common.{◌≡◌, ℕ, Bool, true, false, not, ◌&&◌, ◌==◌, List, [], ◌∷◌, Option, None, Some, IfSome, ap}
-use Rattle.std.proofs.Common.{refl}
+use Rattle.std.proofs.Common.{◌≡◌, ◌&&◌, ◌==◌, [], ◌∷◌, Bool, IfSome, List, None, Option, Some, ap, false, not, refl}
+use Rattle.std.proofs.Common.{true, ℕ}
 use Rattle.std.specs.Prelude.{IsSome, IsSomeAnd, ⊤, fold, map, if◌then◌else◌}
 use Rattle.std.specs.Option.{option_map}
 use Rattle.text_lines.specs.Tagged.{Item}
@@ -9,20 +9,20 @@ use Rattle.text_pieces.specs.Sources.{is_filled}
 use Rattle.text_pieces.specs.declared.white_space.WhiteSpace.{WhiteSpace}
 use Rattle.text_preserved.specs.Preserved.{names_of}
 use Rattle.text_wrapping.specs.Lines.{lines_in, is_wide_in}
-use Rattle.text_wrapping.specs.Blocks.{Block, lines_behind as with_lines_behind, lines_or_empty, is_too_narrow, ended}
-use Rattle.text_wrapping.specs.Blocks.{line_ended, line_feed, with_letter, took, took_all, with_mode, in_mode, added}
-use Rattle.text_wrapping.specs.Blocks.{broken, fragments_taken, without_source, lines_of, ended_lines, ends_in_columns}
+use Rattle.text_wrapping.specs.Blocks.{Block, added, broken, ended, ended_lines, ends_in_columns, fragments_taken}
+use Rattle.text_wrapping.specs.Blocks.{in_mode, is_too_narrow, line_ended, line_feed, lines_after as with_lines_after}
+use Rattle.text_wrapping.specs.Blocks.{lines_of, lines_or_empty, took, took_all, with_letter, with_mode, without_source}
 use Rattle.text_borders.specs.Borders.{Border, horizontal, plain}
 use Rattle.text_borders.specs.Across.{CellLine, Cell, Row, across}
 use Rattle.block_layout.specs.declared.measure.Measure.{Measure}
-use Rattle.block_layout.specs.Laid.{Running, Laid, add_border, add_line, add_text_line, add_text_lines, without_running}
-use Rattle.block_layout.specs.Laid.{lines_behind, laid_text, text_laid, flush_of, flush, started, behind_empty_line}
-use Rattle.block_layout.specs.Laid.{add_empty_line, parted, start_block, without_hanging, start_table, running_or_new}
-use Rattle.block_layout.specs.Laid.{with_added, with_running, run_on, runs_otherwise, enter_mode, add_text}
-use Rattle.block_layout.specs.Laid.{start_awaited, mark, with_text_of, broken_line, break_of, break_line, has_content}
-use Rattle.block_layout.specs.Laid.{add_horizontal_border, add_prefixed, add_block, finished, finished_lines}
-use Rattle.block_layout.specs.LaidRows.{last_border, without_last_border, with_border, add_row_line, add_row_lines}
-use Rattle.block_layout.specs.LaidRows.{with_row, row_laid, add_row}
+use Rattle.block_layout.specs.Laid.{Laid, Running, add_block, add_border, add_empty_line, add_horizontal_border}
+use Rattle.block_layout.specs.Laid.{add_line, add_prefixed, add_text, add_text_line, add_text_lines, after_empty_line}
+use Rattle.block_layout.specs.Laid.{break_line, break_of, broken_line, enter_mode, finished, finished_lines, flush}
+use Rattle.block_layout.specs.Laid.{flush_of, has_content, laid_text, lines_after, mark, parted, run_on, running_or_new}
+use Rattle.block_layout.specs.Laid.{runs_otherwise, start_awaited, start_block, start_table, started, text_laid}
+use Rattle.block_layout.specs.Laid.{with_added, with_running, with_text_of, without_hanging, without_running}
+use Rattle.block_layout.specs.LaidRows.{add_row, add_row_line, add_row_lines, last_border, row_laid, with_border}
+use Rattle.block_layout.specs.LaidRows.{with_row, without_last_border}
 use Rattle.block_layout_laws.specs.LayoutLaws.{AllowsOverflow}
 use Rattle.block_layout_laws.proofs.OptionLemmas.{given_mapped, given_chained}
 
@@ -40,12 +40,12 @@ never_narrow : {S : Type 0} (b : Block S) → Overflows b → is_too_narrow b �
 never_narrow b h = ap (λ o. not o && is_wide_in b.mode b.width b.source) h
 
 text_ends : {S : Type 0} (b : Block S) → Overflows b → IsSomeAnd (ended b) Overflows
-text_ends b h = unless_narrow (is_too_narrow b) (with_lines_behind b (lines_in b.mode b.width b.source))
+text_ends b h = unless_narrow (is_too_narrow b) (with_lines_after b (lines_in b.mode b.width b.source))
     (never_narrow b h) h
 
 source_line_ends : {S : Type 0} (b : Block S) → Overflows b → IsSomeAnd (line_ended b) Overflows
 source_line_ends b h =
-    unless_narrow (is_too_narrow b) (with_lines_behind b (lines_or_empty (lines_in b.mode b.width b.source)))
+    unless_narrow (is_too_narrow b) (with_lines_after b (lines_or_empty (lines_in b.mode b.width b.source)))
     (never_narrow b h) h
 
 takes : {S : Type 0} (main further : S) (c : ℕ) (b : Block S) → Overflows b
@@ -84,7 +84,7 @@ RunsOver r = Overflows r.text
 
 lays : {S : Type 0} (source : Block S) → Overflows source → IsSomeAnd (laid_text source) (λ laid. ⊤)
 lays {S = S} source h =
-    given_chained (λ taken. Overflows taken.1) (λ laid. ⊤) lines_behind (fragments_taken source)
+    given_chained (λ taken. Overflows taken.1) (λ laid. ⊤) lines_after (fragments_taken source)
     (λ taken inside. given_mapped (λ lines. ⊤) (λ laid. ⊤) (λ (lines : List (List (Item S))). (taken.0, lines))
     (ended_lines taken.1) (λ lines _. tt)
     (given_mapped Overflows (λ lines. ⊤) lines_of (ended taken.1) (λ e _. tt) (text_ends taken.1 inside)))
@@ -126,13 +126,13 @@ goes_on_with m f o step h = given_mapped (AllowsOverflow m) (AllowsOverflow m) f
 pub adds_empty_line : {S : Type 0} (m : Measure) (tag : S) (b : Laid S) → AllowsOverflow m b
     → IsSomeAnd (add_empty_line m tag b) (AllowsOverflow m)
 adds_empty_line m tag b h =
-    goes_on_with m (behind_empty_line m tag) (flush m tag b)
+    goes_on_with m (after_empty_line m tag) (flush m tag b)
     (λ x h. record { measure = h.measure; running = h.running }) (flushes m tag b h)
 
 parts : {S : Type 0} (m : Measure) (tag : S) (b : Laid S) → AllowsOverflow m b → AllowsOverflow m (parted m tag b)
 parts m tag b h = by_content (has_content b.lines)
   where
-    by_content : (t : Bool) → AllowsOverflow m (if t then behind_empty_line m tag b else started b)
+    by_content : (t : Bool) → AllowsOverflow m (if t then after_empty_line m tag b else started b)
     by_content true = record { measure = h.measure; running = h.running }
     by_content false = record { measure = h.measure; running = h.running }
 

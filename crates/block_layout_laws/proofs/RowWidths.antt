@@ -1,6 +1,6 @@
 -- Borders, other blocks and rows keep the lines of a block within its width.
-use Rattle.std.proofs.Common.{◌≡◌, ℕ, ◌+◌, ◌≤◌, Bool, true, false, ◌||◌, List, [], ◌∷◌, ◌++◌, length, Option, None}
-use Rattle.std.proofs.Common.{Some, IfSome, sym, ap, ◌∙◌, subst, refl, arith}
+use Rattle.std.proofs.Common.{◌≡◌, ◌+◌, ◌≤◌, ◌||◌, [], ◌∷◌, ◌++◌, ◌∙◌, Bool, IfSome, List, None, Option, Some, ap}
+use Rattle.std.proofs.Common.{arith, false, length, refl, subst, sym, true, ℕ}
 use Rattle.std.specs.Prelude.{All, fold, max, ⊤, if◌then◌else◌}
 use Rattle.std.specs.Option.{option_map}
 use Rattle.std.proofs.lemmas.Option.{MatchOption-at_some, same_Some}
@@ -19,10 +19,10 @@ use Rattle.text_borders.specs.Across.{CellLine, Cell, Hanging, Row, as_text, acr
 use Rattle.text_borders.specs.AcrossLaws.{LineFits, CellFits}
 use Rattle.text_borders.proofs.AcrossLemmas.{retagged_columns}
 use Rattle.block_layout.specs.declared.measure.Measure.{Measure}
-use Rattle.block_layout.specs.Laid.{Laid, add_border, add_horizontal_border, flush, finished, finished_lines}
-use Rattle.block_layout.specs.Laid.{content_as_text, add_prefixed, add_block, without_hanging}
-use Rattle.block_layout.specs.LaidRows.{border_line, last_border, before_last, without_last_border, with_border}
-use Rattle.block_layout.specs.LaidRows.{add_row_line, add_row_lines, with_row, row_laid, add_row, add_slashes}
+use Rattle.block_layout.specs.Laid.{Laid, add_block, add_border, add_horizontal_border, add_prefixed, content_as_text}
+use Rattle.block_layout.specs.Laid.{finished, finished_lines, flush, without_hanging}
+use Rattle.block_layout.specs.LaidRows.{add_row, add_row_line, add_row_lines, add_slashes, before_last, border_line}
+use Rattle.block_layout.specs.LaidRows.{last_border, row_laid, with_border, with_row, without_last_border}
 use Rattle.block_layout_laws.specs.LayoutLaws.{IsKept, IsWithin}
 use Rattle.block_layout_laws.proofs.OptionLemmas.{mapped}
 use Rattle.block_layout_laws.proofs.WidthLemmas.{TextLaws, Fits, line_put, line_added, flushed, none_hang}
@@ -149,9 +149,9 @@ pub block_added : {S : Type 0} (laws : TextLaws S) (borders : BorderLaws S) (oth
     (first following : List ℕ) (lines : List (CellLine S)) (b : Laid S)
     → text_columns first + other.width ≤ m.width → text_columns following + other.width ≤ m.width
     → All (Fits other.width) lines → IsWithin m b → IsWithin m (add_block other m tag first following lines b)
-block_added laws borders other m tag first following [] b here behind fit within = within
-block_added laws borders other m tag first following (l ∷ lines) b here behind fit within =
-    all_prefixed laws borders other m tag following lines (add_prefixed other m tag first b l) behind
+block_added laws borders other m tag first following [] b here trailing fit within = within
+block_added laws borders other m tag first following (l ∷ lines) b here trailing fit within =
+    all_prefixed laws borders other m tag following lines (add_prefixed other m tag first b l) trailing
     (All-tail (Fits other.width) l lines fit)
     (prefixed laws borders other m tag first b l here (All-head (Fits other.width) l lines fit) within)
 

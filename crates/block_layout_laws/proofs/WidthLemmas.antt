@@ -1,6 +1,6 @@
 -- Each call keeps the lines of a block within its width.
-use Rattle.std.proofs.Common.{◌≡◌, ℕ, ◌-◌, ◌<◌, ◌≤◌, ⊎_elim, Bool, true, false, ◌&&◌, List, [], ◌∷◌, ◌++◌, Option, None}
-use Rattle.std.proofs.Common.{Some, IfSome, map, sym, subst, refl, arith}
+use Rattle.std.proofs.Common.{◌≡◌, ◌-◌, ◌<◌, ◌≤◌, ⊎_elim, ◌&&◌, [], ◌∷◌, ◌++◌, Bool, IfSome, List, None, Option, Some}
+use Rattle.std.proofs.Common.{arith, false, map, refl, subst, sym, true, ℕ}
 use Rattle.std.specs.Prelude.{All, replicate, if◌then◌else◌}
 use Rattle.std.specs.Option.{option_map}
 use Rattle.std.proofs.lemmas.Bool.{cases_lt}
@@ -10,8 +10,8 @@ use Rattle.text_lines.specs.Tagged.{Item, character, marker, line_columns}
 use Rattle.text_pieces.specs.Items.{has_text}
 use Rattle.text_pieces.specs.Sources.{is_filled}
 use Rattle.text_pieces.specs.declared.white_space.WhiteSpace.{WhiteSpace}
-use Rattle.text_wrapping.specs.Blocks.{Block, empty_block, padded, added, ended, ended_lines, marked_by, broken}
-use Rattle.text_wrapping.specs.Blocks.{fragments_taken, without_source, ends_in_columns}
+use Rattle.text_wrapping.specs.Blocks.{Block, added, broken, empty_block, ended, ended_lines, ends_in_columns}
+use Rattle.text_wrapping.specs.Blocks.{fragments_taken, marked_by, padded, without_source}
 use Rattle.text_wrapping.specs.Lines.{lines_in}
 use Rattle.text_wrapping.specs.LawWords.{IsWithin as IsTextWithin}
 use Rattle.text_preserved.specs.Preserved.{names_of}
@@ -19,12 +19,12 @@ use Rattle.text_borders.specs.Lines.{BlockLine, text}
 use Rattle.text_borders.specs.Across.{CellLine}
 use Rattle.text_borders.specs.AcrossLaws.{LineFits, CellFits}
 use Rattle.block_layout.specs.declared.measure.Measure.{Measure}
-use Rattle.block_layout.specs.Laid.{Running, Laid, nothing_laid, padding, with_line, add_line, add_text_line}
-use Rattle.block_layout.specs.Laid.{add_text_lines, without_running, lines_behind, laid_text, text_laid, flush_of}
-use Rattle.block_layout.specs.Laid.{flush, started, behind_empty_line, add_empty_line, parted, start_block}
-use Rattle.block_layout.specs.Laid.{without_hanging, start_table, end_block, running_or_new, with_added, with_marker}
-use Rattle.block_layout.specs.Laid.{with_running, run_on, runs_otherwise, enter_mode, add_text, start_awaited, mark}
-use Rattle.block_layout.specs.Laid.{with_text_of, broken_line, break_of, break_line, has_content}
+use Rattle.block_layout.specs.Laid.{Laid, Running, add_empty_line, add_line, add_text, add_text_line, add_text_lines}
+use Rattle.block_layout.specs.Laid.{after_empty_line, break_line, break_of, broken_line, end_block, enter_mode, flush}
+use Rattle.block_layout.specs.Laid.{flush_of, has_content, laid_text, lines_after, mark, nothing_laid, padding, parted}
+use Rattle.block_layout.specs.Laid.{run_on, running_or_new, runs_otherwise, start_awaited, start_block, start_table}
+use Rattle.block_layout.specs.Laid.{started, text_laid, with_added, with_line, with_marker, with_running, with_text_of}
+use Rattle.block_layout.specs.Laid.{without_hanging, without_running}
 use Rattle.block_layout_laws.specs.LayoutLaws.{IsKept, IsWithin}
 use Rattle.block_layout_laws.proofs.OptionLemmas.{known, mapped, chained}
 
@@ -124,7 +124,7 @@ source_less width b h = record { same_width = h.same_width; no_overflow = h.no_o
 text_lines_fit : {S : Type 0} (laws : TextLaws S) (width : ℕ) (source : Block S) → IsTextWithin width source
     → IfSome (laid_text source) (λ laid. All (FitsIn width) laid.1)
 text_lines_fit {S = S} laws width source h =
-    chained (λ taken. IsTextWithin width taken.1) (λ laid. All (FitsIn width) laid.1) lines_behind
+    chained (λ taken. IsTextWithin width taken.1) (λ laid. All (FitsIn width) laid.1) lines_after
     (fragments_taken source)
     (λ taken inside. mapped (λ lines. All (FitsIn width) lines) (λ laid. All (FitsIn width) laid.1)
     (λ (lines : List (List (Item S))). (taken.0, lines)) (ended_lines taken.1) (λ lines fit. fit)
@@ -163,21 +163,21 @@ started_within : {S : Type 0} (m : Measure) (b : Laid S) → IsWithin m b → Is
 started_within m b within = record { lines = within.lines; running = within.running; hanging = within.hanging }
 
 emptied_within : {S : Type 0} (laws : TextLaws S) (m : Measure) (tag : S) (b : Laid S) → IsWithin m b
-    → IsWithin m (behind_empty_line m tag b)
+    → IsWithin m (after_empty_line m tag b)
 emptied_within laws m tag b within =
     started_within m (add_line m tag false [] b) (line_added laws m tag false [] b (omega arith) within)
 
 pub empty_line_added : {S : Type 0} (laws : TextLaws S) (m : Measure) (tag : S) (b : Laid S) → IsKept m → IsWithin m b
     → IfSome (add_empty_line m tag b) (IsWithin m)
 empty_line_added laws m tag b kept within =
-    mapped (IsWithin m) (IsWithin m) (behind_empty_line m tag) (flush m tag b)
+    mapped (IsWithin m) (IsWithin m) (after_empty_line m tag) (flush m tag b)
     (λ x inside. emptied_within laws m tag x inside) (flushed laws m tag b kept within)
 
 parted_within : {S : Type 0} (laws : TextLaws S) (m : Measure) (tag : S) (b : Laid S) → IsWithin m b
     → IsWithin m (parted m tag b)
 parted_within laws m tag b within = by_content (has_content b.lines)
   where
-    by_content : (t : Bool) → IsWithin m (if t then behind_empty_line m tag b else started b)
+    by_content : (t : Bool) → IsWithin m (if t then after_empty_line m tag b else started b)
     by_content true = emptied_within laws m tag b within
     by_content false = started_within m b within
 

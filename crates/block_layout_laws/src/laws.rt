@@ -8,14 +8,16 @@ ghost use Rattle.text_borders.specs.Borders.{Border};
 ghost use Rattle.text_borders.specs.Lines.{BlockLine, border, line_shown};
 ghost use Rattle.text_borders.specs.Across.{CellLine, Cell, across, width_across};
 ghost use Rattle.text_borders.specs.AcrossLaws.{LineFits, CellFits};
-ghost use Rattle.block_layout.specs.Laid.{Laid, nothing_laid, flush, add_text_lines, add_empty_line, start_block};
-ghost use Rattle.block_layout.specs.Laid.{start_table, end_block, start_awaited, add_text, mark, break_line};
-ghost use Rattle.block_layout.specs.Laid.{add_horizontal_border, add_border, add_block, finished_lines};
+ghost use Rattle.block_layout.specs.Laid.{Laid, add_block, add_border, add_empty_line, add_horizontal_border, add_text};
+ghost use Rattle.block_layout.specs.Laid.{add_text_lines, break_line, end_block, finished_lines, flush, mark};
+ghost use Rattle.block_layout.specs.Laid.{nothing_laid, start_awaited, start_block, start_table};
 ghost use Rattle.block_layout.specs.LaidRows.{last_border, add_row, add_slashes};
 ghost use Rattle.block_layout_laws.specs.LayoutLaws.{IsKept, IsWithin, AllowsOverflow};
 
+use text_borders::{
+    filled_borders_stay_sound, rows_keep_their_width, shown_borders_have_their_width,
+};
 use text_lines::EqualCopy;
-use text_borders::{filled_borders_stay_sound, rows_keep_their_width, shown_borders_have_their_width};
 use text_wrapping::{blocks_keep_the_width, filled_lines_have_the_width};
 
 /// No line of a block passes its width where no character may overflow: none does where nothing is laid yet, and each

@@ -7,9 +7,9 @@ ghost use Rattle.text_lines.specs.Tagged.{Item};
 ghost use Rattle.text_borders.specs.Borders.{Border};
 ghost use Rattle.text_borders.specs.Across.{CellLine, Cell};
 ghost use Rattle.text_borders.specs.Retagged.{reitem, reborder, reline, recell_line, recell};
-ghost use Rattle.block_layout.specs.Laid.{Laid, flush, add_text_lines, add_empty_line, start_block, start_table};
-ghost use Rattle.block_layout.specs.Laid.{start_awaited, add_text, mark, break_line, is_nothing, add_horizontal_border};
-ghost use Rattle.block_layout.specs.Laid.{add_border, add_block, finished_lines};
+ghost use Rattle.block_layout.specs.Laid.{Laid, add_block, add_border, add_empty_line, add_horizontal_border, add_text};
+ghost use Rattle.block_layout.specs.Laid.{add_text_lines, break_line, finished_lines, flush, is_nothing, mark};
+ghost use Rattle.block_layout.specs.Laid.{start_awaited, start_block, start_table};
 ghost use Rattle.block_layout.specs.LaidRows.{add_row, add_slashes};
 ghost use Rattle.block_layout.specs.Retagged.{relaid};
 

@@ -1,6 +1,5 @@
 //! Text of a renderer.
-ghost use Rattle.std.specs.Prelude.{◌≡◌, ◌⊎◌, ◌++◌, ◌∷◌, false, [], map, chars};
-ghost use Rattle.std.specs.Prelude.{Err, IsTrue, IfOk, IfErr, OnOk};
+ghost use Rattle.std.specs.Prelude.{◌≡◌, ◌⊎◌, ◌++◌, ◌∷◌, [], Err, IfErr, IfOk, IsTrue, OnOk, chars, false, map};
 ghost use Rattle.text_pieces.specs.declared.fault.BlockError.TheVariants as errors;
 ghost use Rattle.block_layout.specs.Laid.{add_text};
 ghost use Rattle.block_trait.specs.Renderers.{struck};
@@ -8,8 +7,8 @@ ghost use Rattle.block_trait.specs.Renderers.{struck};
 use crate::sub_renderer::SubRenderer;
 use block_trait::struck;
 use std::alloc::AllocError;
-use text_lines::EqualCopy;
 use text_decorators::TextDecorator;
+use text_lines::EqualCopy;
 use text_pieces::BlockError;
 
 impl<D: TextDecorator + Drop> SubRenderer<D> {

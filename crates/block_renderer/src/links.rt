@@ -1,16 +1,16 @@
 //! Lines after a page.
-ghost use Rattle.std.specs.Prelude.{◌≡◌, ◌⊎◌, false, true, None, Some, fold, map, is_err, Err, IfOk, IfErr, OnOk};
-ghost use Rattle.std.specs.Prelude.{OnErr};
+ghost use Rattle.std.specs.Prelude.{◌≡◌, ◌⊎◌, Err, IfErr, IfOk, None, OnErr, OnOk, Some, false, fold, is_err, map};
+ghost use Rattle.std.specs.Prelude.{true};
 ghost use Rattle.text_lines.specs.Tagged.{line_items};
 ghost use Rattle.text_decorators.specs.Marks.{page_end, seen_lines};
 ghost use Rattle.text_pieces.specs.Sources.{names};
 ghost use Rattle.text_pieces.specs.declared.fault.BlockError.TheVariants as errors;
 
 use crate::sub_renderer::SubRenderer;
-use text_footnotes::into_footnote_lines;
 use std::alloc::AllocError;
-use text_lines::TaggedLine;
 use text_decorators::TextDecorator;
+use text_footnotes::into_footnote_lines;
+use text_lines::TaggedLine;
 use text_pieces::BlockError;
 
 impl<D: TextDecorator + Drop> SubRenderer<D> {

@@ -13,8 +13,8 @@ use text_decorators::TextDecorator;
 use text_pieces::BlockError;
 
 impl<D: TextDecorator + Drop> SubRenderer<D> {
-    ghost use Rattle.block_trait.specs.Renderers.{add_sub, append_sub, add_cells, flush_sub, cell_of_sub};
-    ghost use Rattle.block_trait.specs.Renderers.{slashed, ruled, add_first, add_rows_below};
+    ghost use Rattle.block_trait.specs.Renderers.{add_cells, add_first, add_rows_below, add_sub, append_sub};
+    ghost use Rattle.block_trait.specs.Renderers.{cell_of_sub, flush_sub, ruled, slashed};
     ghost use Rattle.block_renderer.specs.Seen.{sub_of, IsJoinedSub};
 
     /// Adds the lines of another renderer after prefixes.

@@ -1,6 +1,6 @@
 -- Names of files.
-use Rattle.std.specs.Prelude.{◌≡◌, ◌≢◌, ℕ, ◌==◌, Bool, true, false, List, [], ◌∷◌, ◌++◌, Option, Some, fold}
-use Rattle.std.specs.Prelude.{if◌then◌else◌, refl}
+use Rattle.std.specs.Prelude.{◌≡◌, ◌≢◌, ◌==◌, [], ◌∷◌, ◌++◌, if◌then◌else◌, Bool, List, Option, Some, false, fold, refl}
+use Rattle.std.specs.Prelude.{true, ℕ}
 use Rattle.std.proofs.Common.{sym, ap, ◌∙◌, arith}
 use Rattle.std.proofs.lemmas.List.{append_assoc, append-nil}
 use Rattle.std.proofs.lemmas.List.Sums.{fold-append}
@@ -9,8 +9,8 @@ use Rattle.text_pieces.specs.Cuts.{Lacks, IsCutAt}
 use Rattle.block_trait.specs.Renderers.{file_name, image_title}
 use Rattle.block_trait.specs.declared.options.ImageRenderMode.{ImageRenderMode}
 
-pub name_behind : (text front back : List ℕ) → IsCutAt 0x2F text front back → file_name back ≡ file_name text
-name_behind text front back cut =
+pub name_after : (text front back : List ℕ) → IsCutAt 0x2F text front back → file_name back ≡ file_name text
+name_after text front back cut =
     sym (ap (fold (λ name c. if c == 0x2F then [] else name ++ c ∷ []) []) cut.whole
     ∙ fold-append (λ name c. if c == 0x2F then [] else name ++ c ∷ []) [] front (0x2F ∷ back))
 

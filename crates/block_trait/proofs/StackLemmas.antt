@@ -1,6 +1,6 @@
 -- The last of some things, taken off.
-use Rattle.std.specs.Prelude.{◌≡◌, ℕ, ◌+◌, List, [], ◌∷◌, ◌++◌, Option, None, Some, length, MatchOption, refl}
-use Rattle.std.specs.Prelude.{option_to_list}
+use Rattle.std.specs.Prelude.{◌≡◌, ◌+◌, [], ◌∷◌, ◌++◌, List, MatchOption, None, Option, Some, length, option_to_list}
+use Rattle.std.specs.Prelude.{refl, ℕ}
 use Rattle.std.proofs.Common.{sym, ap, ◌∙◌, arith}
 use Rattle.std.proofs.lemmas.List.{append-nil}
 use Rattle.block_layout.specs.LaidRows.{before_last}

@@ -3,11 +3,11 @@ use Rattle.std.specs.Prelude.{ℕ, ◌-◌, Bool, List, Option, Some, map}
 use Rattle.text_decorators.specs.Marks.{Mark, link_end}
 use Rattle.text_pieces.specs.declared.white_space.WhiteSpace.{WhiteSpace}
 use Rattle.block_layout.specs.LaidRows.{before_last}
-use Rattle.block_trait.specs.Renderers.{Marking, Sub, with_empty_line, with_block_started, with_table_started}
-use Rattle.block_trait.specs.Renderers.{with_block_ended, with_line_broken, with_border_of, with_fragment}
-use Rattle.block_trait.specs.Renderers.{with_preformat, with_mode, flush_sub, add_inline, begin, finish, begin_link}
-use Rattle.block_trait.specs.Renderers.{finish_link, begin_strikeout, finish_strikeout, add_image, begin_colour}
-use Rattle.block_trait.specs.Renderers.{finish_colour, add_sub, add_cells, add_rows_below}
+use Rattle.block_trait.specs.Renderers.{Marking, Sub, add_cells, add_image, add_inline, add_rows_below, add_sub, begin}
+use Rattle.block_trait.specs.Renderers.{begin_colour, begin_link, begin_strikeout, finish, finish_colour, finish_link}
+use Rattle.block_trait.specs.Renderers.{finish_strikeout, flush_sub, with_block_ended, with_block_started}
+use Rattle.block_trait.specs.Renderers.{with_border_of, with_empty_line, with_fragment, with_line_broken, with_mode}
+use Rattle.block_trait.specs.Renderers.{with_preformat, with_table_started}
 
 -- A call of a renderer; others that it takes are of type R.
 pub data Call (R : Type 0) : Type 0 where

@@ -4,17 +4,17 @@ use Rattle.text_pieces.specs.declared.fault.BlockError.{BlockError}
 use Rattle.text_pieces.specs.declared.fault.BlockError.TheVariants.{TooNarrow, Memory, Failed}
 
 -- After a refusal every call is refused as `Failed`; before it a call is done, or too narrow, or memory is wanting.
-pub record IsOutcome (result : Result Unit BlockError) (before behind : Bool) (Done Never : Type 0) : Type 0 where
-  pub refused : is_err result ≡ behind
+pub record IsOutcome (result : Result Unit BlockError) (before trailing : Bool) (Done Never : Type 0) : Type 0 where
+  pub refused : is_err result ≡ trailing
   pub failed : before ≡ true → result ≡ Err Failed
   pub kinds : before ≡ false → IfErr result (λ e. (e ≡ TooNarrow) ⊎ (e ≡ Memory))
   pub done : OnOk result Done
   pub narrow : result ≡ Err TooNarrow → Never
 
 -- A call that answers something leaves the renderer as it was, but that it may have failed.
-pub record IsAnswered {A : Type 0} (result : Result A BlockError) (before behind : Bool) (Stays : Type 0)
+pub record IsAnswered {A : Type 0} (result : Result A BlockError) (before trailing : Bool) (Stays : Type 0)
     (Is : A → Type 0) : Type 0 where
-  pub refused : is_err result ≡ behind
+  pub refused : is_err result ≡ trailing
   pub failed : before ≡ true → result ≡ Err Failed
   pub kinds : before ≡ false → IfErr result (λ e. e ≡ Memory)
   pub stays : Stays

@@ -1,7 +1,7 @@
 -- A renderer of a block: what it holds, and what each call makes of it. Where a call comes to no renderer, a character
 -- is wider than the lines at which its text wraps.
-use Rattle.std.specs.Prelude.{ℕ, ◌+◌, ◌-◌, ◌==◌, nat_lt, nat_le, min, max, Bool, true, List, [], ◌∷◌, ◌++◌, Option}
-use Rattle.std.specs.Prelude.{None, Some, fold, flat_map, replicate, unwrap_or, chars, if◌then◌else◌}
+use Rattle.std.specs.Prelude.{◌+◌, ◌-◌, ◌==◌, [], ◌∷◌, ◌++◌, if◌then◌else◌, Bool, List, None, Option, Some, chars}
+use Rattle.std.specs.Prelude.{flat_map, fold, max, min, nat_le, nat_lt, replicate, true, unwrap_or, ℕ}
 use Rattle.std.specs.Option.{option_map, option_and_then}
 use Rattle.text_lines.specs.Columns.{width_of}
 use Rattle.text_decorators.specs.Marks.{Mark, strikeout_start, strikeout_end, preformat_first, preformat_further, image}
@@ -11,14 +11,13 @@ use Rattle.text_borders.specs.Borders.{plain, horizontal}
 use Rattle.text_borders.specs.Lines.{BlockLine}
 use Rattle.text_borders.specs.Across.{Cell}
 use Rattle.block_layout.specs.declared.measure.Measure.{Measure}
-use Rattle.block_layout.specs.Laid.{Laid, nothing_laid, finished_lines, add_empty_line, start_block, start_table}
-use Rattle.block_layout.specs.Laid.{end_block, flush, break_line, is_ignored, start_awaited, add_text, mark, add_border}
-use Rattle.block_layout.specs.Laid.{add_horizontal_border, add_block}
+use Rattle.block_layout.specs.Laid.{Laid, add_block, add_border, add_empty_line, add_horizontal_border, add_text}
+use Rattle.block_layout.specs.Laid.{break_line, end_block, finished_lines, flush, is_ignored, mark, nothing_laid}
+use Rattle.block_layout.specs.Laid.{start_awaited, start_block, start_table}
 use Rattle.block_layout.specs.LaidRows.{add_row, add_slashes, before_last}
 use Rattle.block_trait.specs.declared.options.RenderOptions.{RenderOptions}
 use Rattle.block_trait.specs.declared.options.ImageRenderMode.{ImageRenderMode}
-use Rattle.block_trait.specs.declared.options.ImageRenderMode.TheVariants.{IgnoreEmpty, ShowAlways, Replace}
-use Rattle.block_trait.specs.declared.options.ImageRenderMode.TheVariants.{Filename}
+use Rattle.block_trait.specs.declared.options.ImageRenderMode.TheVariants.{Filename, IgnoreEmpty, Replace, ShowAlways}
 
 -- How a decorator marks text: the texts of its marks and what contracts see of their annotations; whether a colour has
 -- one; what it holds after a mark; whether a colour's annotation ends with it; what one made for a part of the block
@@ -279,8 +278,8 @@ abbrev pub lines_of_sub : {H A : Type 0} → Sub H A → Option (List (BlockLine
 lines_of_sub s = finished_lines (measure_of s) s.annotations s.laid
 
 -- the columns after a prefix: at least so many are asked for after it, and one
-abbrev pub room_behind : {H A : Type 0} → ℕ → ℕ → Sub H A → Option ℕ
-room_behind prefix least s =
+abbrev pub room_after : {H A : Type 0} → ℕ → ℕ → Sub H A → Option ℕ
+room_after prefix least s =
     let asked = max least 1 in
     if nat_le asked (s.width - prefix) then Some (s.width - prefix)
     else if s.options.allow_width_overflow then Some asked else None

@@ -26,8 +26,8 @@ fn file_name(src: &str) -> &str
     ensures { chars result.now ≡ file_name (chars src.now) }
 {
     let mut name = src;
-    while let Some((_front, behind)) = cut_at(name, '/') {
-        name = behind;
+    while let Some((_front, trailing)) = cut_at(name, '/') {
+        name = trailing;
     }
     name
 }

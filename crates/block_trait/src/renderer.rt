@@ -1,16 +1,15 @@
 //! Calls that lay out the parts of a page.
 ghost use Rattle.std.specs.Prelude.{◌≡◌, ℕ, List, Bool, false, ◌||◌, chars, string_bytes, IfOk};
 ghost use Rattle.std.specs.List.{list_any};
-ghost use Rattle.text_decorators.specs.Marks.{Mark, link_start, emphasis_start, emphasis_end, strong_start, strong_end};
-ghost use Rattle.text_decorators.specs.Marks.{code_start, code_end, superscript_start, superscript_end, header, quote};
-ghost use Rattle.text_decorators.specs.Marks.{unordered_item, ordered_item, colour_start, colour_end, background_start};
-ghost use Rattle.text_decorators.specs.Marks.{background_end};
-ghost use Rattle.block_trait.specs.Calls.{Call, adds_empty_line, starts_block, starts_table, ends_block, ends_line};
-ghost use Rattle.block_trait.specs.Calls.{breaks_line, adds_border, adds_border_of, starts_preformat};
-ghost use Rattle.block_trait.specs.Calls.{ends_preformat, starts_mode, ends_mode, adds_text, starts_link, ends_link};
-ghost use Rattle.block_trait.specs.Calls.{starts_strikeout, ends_strikeout, starts_mark, ends_mark, adds_image};
-ghost use Rattle.block_trait.specs.Calls.{starts_fragment, starts_colour, ends_colour, adds_block, adds_cells};
-ghost use Rattle.block_trait.specs.Calls.{adds_rows_below};
+ghost use Rattle.text_decorators.specs.Marks.{Mark, background_end, background_start, code_end, code_start, colour_end};
+ghost use Rattle.text_decorators.specs.Marks.{colour_start, emphasis_end, emphasis_start, header, link_start};
+ghost use Rattle.text_decorators.specs.Marks.{ordered_item, quote, strong_end, strong_start, superscript_end};
+ghost use Rattle.text_decorators.specs.Marks.{superscript_start, unordered_item};
+ghost use Rattle.block_trait.specs.Calls.{Call, adds_block, adds_border, adds_border_of, adds_cells, adds_empty_line};
+ghost use Rattle.block_trait.specs.Calls.{adds_image, adds_rows_below, adds_text, breaks_line, ends_block, ends_colour};
+ghost use Rattle.block_trait.specs.Calls.{ends_line, ends_link, ends_mark, ends_mode, ends_preformat, ends_strikeout};
+ghost use Rattle.block_trait.specs.Calls.{starts_block, starts_colour, starts_fragment, starts_link, starts_mark};
+ghost use Rattle.block_trait.specs.Calls.{starts_mode, starts_preformat, starts_strikeout, starts_table};
 ghost use Rattle.block_trait.specs.Outcomes.{IsOutcome, IsAnswered};
 
 use text_decorators::Colour;

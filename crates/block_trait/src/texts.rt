@@ -6,8 +6,8 @@ ghost use Rattle.block_trait.specs.Texts.{line_text, text_of_lines};
 
 use crate::striking::push_character;
 use std::alloc::{AllocError, Global};
-use text_lines::{EqualCopy, TaggedLine, TaggedLineElement};
 use text_borders::RenderLine;
+use text_lines::{EqualCopy, TaggedLine, TaggedLineElement};
 
 /// The characters of the lines, a line end after each.
 pub fn text_of_lines<T: EqualCopy + Drop>(

@@ -1,6 +1,6 @@
 -- What a loop of reads has read of a device so far.
-use Rattle.std.proofs.Common.{◌≡◌, ◌∙◌, ◌++◌, ℕ, List, [], Option, None, Some, IfSome, refl, sym, ap}
-use Rattle.std.proofs.Common.{append-nil, append_assoc}
+use Rattle.std.proofs.Common.{◌≡◌, ◌∙◌, ◌++◌, [], IfSome, List, None, Option, Some, ap, append-nil, append_assoc, refl}
+use Rattle.std.proofs.Common.{sym, ℕ}
 use Rattle.std.specs.Io.KnownBytes.{Consumes, IsAtEnd}
 
 pub consumes_more : (all now next : Option (List ℕ)) (read piece : List ℕ) → Consumes all now read

@@ -1,6 +1,6 @@
 -- What clap makes of all words: the faults of its walk, and the rows of its walk with the flags' defaults after them.
-use Rattle.std.proofs.Common.{◌≡◌, ◌∙◌, ◌++◌, ◌∷◌, ◌||◌, [], Bool, cond, true, false, List, Option, Some, None}
-use Rattle.std.proofs.Common.{flat_map, refl, sym, ap, codes, append-nil}
+use Rattle.std.proofs.Common.{◌≡◌, ◌∙◌, ◌++◌, ◌∷◌, ◌||◌, [], Bool, List, None, Option, Some, ap, append-nil, codes}
+use Rattle.std.proofs.Common.{cond, false, flat_map, refl, sym, true}
 use Rattle.std.specs.Prelude.{fold, if◌then◌else◌, is_some}
 use Rattle.std.specs.List.{find}
 use Rattle.std.specs.Str.{bytes_eq}

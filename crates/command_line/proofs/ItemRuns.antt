@@ -3,8 +3,8 @@ use Rattle.std.proofs.Common.{◌≡◌, ◌∙◌, ◌++◌, ◌∷◌, ◌||�
 use Rattle.std.specs.Str.{bytes_eq}
 use Rattle.clap.specs.Walk.{Row, Text, has_row, settled_rows}
 use Rattle.clap.specs.Faults.{settle_fault}
-use Rattle.command_line.specs.CommandWords.{Ending, Flag, Item, Valued, bare, dashes, file, footnotes, max_bytes}
-use Rattle.command_line.specs.CommandWords.{named, no_decorate, references, rich, shared_footnotes, width}
+use Rattle.command_line.specs.CommandWords.{Ending, Flag, Item, Valued, bare, dashes, file, footnotes, max_bytes, named}
+use Rattle.command_line.specs.CommandWords.{no_decorate, references, rich, shared_footnotes, width}
 use Rattle.command_line.proofs.FaultKinds.{IsRefusal, refusal_as}
 use Rattle.command_line.proofs.ItemUses.{Takes, held_with, id_in, item_fault, pend, row_in, settle_is, settled_is}
 use Rattle.command_line.proofs.ItemUses.{taken, taken_passes, takes, untaken, used_is, value_fault}
@@ -26,10 +26,10 @@ pended rows None = rows
 pended rows (Some item) = rows ++ row_in item ∷ []
 
 -- the file after `--`
-abbrev pub behind : Ending → List Item
-behind bare = []
-behind dashes = []
-behind (named name) = file name ∷ []
+abbrev pub trailing : Ending → List Item
+trailing bare = []
+trailing dashes = []
+trailing (named name) = file name ∷ []
 
 -- ---- what is held is used
 

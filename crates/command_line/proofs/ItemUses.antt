@@ -1,6 +1,6 @@
 -- An item is one use of an argument: how it may fail, and the row that it gives.
-use Rattle.std.proofs.Common.{◌≡◌, ◌∙◌, ◌++◌, ◌∷◌, [], Bool, true, false, List, Option, Some, None, refl, ap, codes}
-use Rattle.std.proofs.Common.{pos}
+use Rattle.std.proofs.Common.{◌≡◌, ◌∙◌, ◌++◌, ◌∷◌, [], Bool, List, None, Option, Some, ap, codes, false, pos, refl}
+use Rattle.std.proofs.Common.{true}
 use Rattle.std.specs.Option.{option_map_or}
 use Rattle.clap.specs.Walk.{Held, Row, Text, has_row, more_values, settled_rows, used, used_by_id, with_values, without}
 use Rattle.clap.specs.Values.{reading_of, refused_kind}

@@ -1,6 +1,6 @@
 -- Items that clap takes one after the other are those of a line of the grammar.
-use Rattle.std.proofs.Common.{◌≡◌, ◌∙◌, ◌++◌, ◌≤◌, ◌||◌, ◌∷◌, [], ℕ, Bool, cond, not, zero, suc, true, false, List}
-use Rattle.std.proofs.Common.{Option, Some, None, map, length, refl, sym, ap, subst, arith}
+use Rattle.std.proofs.Common.{◌≡◌, ◌∙◌, ◌++◌, ◌≤◌, ◌||◌, ◌∷◌, [], Bool, List, None, Option, Some, ap, arith, cond}
+use Rattle.std.proofs.Common.{false, length, map, not, refl, subst, suc, sym, true, zero, ℕ}
 use Rattle.std.specs.List.{All}
 use Rattle.std.specs.Str.{bytes_eq}
 use Rattle.std.proofs.lemmas.List.{length-map}
@@ -8,10 +8,10 @@ use Rattle.std.proofs.lemmas.Slice.Eq.{bytes_eq-Decides}
 use Rattle.clap.specs.Walk.{Row, Text, has_row}
 use Rattle.clap.specs.Kinds.{values_kinds}
 use Rattle.command_line.specs.CommandWords.{Asked, Ending, Flag, GivesNumber, GivesText, GivesWidth, IsGiven, IsLine}
-use Rattle.command_line.specs.CommandWords.{IsWritten, Item, Valued, apart, bare, dashes, files_in, file, flag}
+use Rattle.command_line.specs.CommandWords.{IsWritten, Item, Valued, apart, bare, dashes, file, files_in, flag}
 use Rattle.command_line.specs.CommandWords.{footnotes, joined, max_bytes, named, no_decorate, references, rich}
 use Rattle.command_line.specs.CommandWords.{shared_footnotes, uses_in, values_in, width}
-use Rattle.command_line.proofs.ItemRuns.{Runs, behind}
+use Rattle.command_line.proofs.ItemRuns.{Runs, trailing}
 use Rattle.command_line.proofs.ItemUses.{id_in, name_of, numbers, parser_at, row_in, value_fault, value_of}
 use Rattle.command_line.proofs.NameUses.{files_all, same_parser, uses_all, uses_at, values_all}
 use Rattle.command_line.proofs.NumberValues.{says_number, takes_number}
@@ -119,7 +119,7 @@ pub record Line (items : List Item) (ending : Ending) : Type 0 where
   pub asked : Asked
   pub asks : IsLine items ending asked
 
-pub runs_ask : (items : List Item) (ending : Ending) → All IsWritten items → Runs [] (items ++ behind ending)
+pub runs_ask : (items : List Item) (ending : Ending) → All IsWritten items → Runs [] (items ++ trailing ending)
     → Line items ending
 runs_ask items ending written runs = record {
   asked = record {
@@ -147,7 +147,7 @@ runs_ask items ending written runs = record {
 }
   where
     all : List Item
-    all = items ++ behind ending
+    all = items ++ trailing ending
 
     columns : (n : ℕ) × GivesWidth (values_in width items) n
     columns = width_asked (values_in width items) (uses_at (valued width) all) (values_all width items ending)
@@ -207,7 +207,7 @@ single_uses : (values : List Text) (uses : List Item) → values ≡ map value_o
 single_uses values uses are short = let same = ap length are ∙ length-map uses value_of in omega arith
 
 pub all_single : (items : List Item) (ending : Ending) (asked : Asked) → IsLine items ending asked → (name : Name)
-    → length (uses_at name (items ++ behind ending)) ≤ 1
+    → length (uses_at name (items ++ trailing ending)) ≤ 1
 all_single items ending asked line (valued width) =
     single_uses _ _ (values_all width items ending) (width_single _ _ line.width)
 all_single items ending asked line (valued references) =
@@ -244,7 +244,7 @@ Fine [] = Unit {0}
 Fine (item ∷ rest) = (value_fault item ≡ []) × Fine rest
 
 fine_items : (items : List Item) (ending : Ending) → Good (values_in width items) → Good (values_in max_bytes items)
-    → Fine (items ++ behind ending)
+    → Fine (items ++ trailing ending)
 fine_items [] bare w m = tt
 fine_items [] dashes w m = tt
 fine_items [] (named name) w m = (refl, tt)
@@ -315,8 +315,8 @@ run_from (item ∷ rest) rows short none fine = (
 )
 
 pub line_runs : (items : List Item) (ending : Ending) (asked : Asked) → IsLine items ending asked
-    → Runs [] (items ++ behind ending)
+    → Runs [] (items ++ trailing ending)
 line_runs items ending asked line =
-    run_from (items ++ behind ending) [] (all_single items ending asked line)
+    run_from (items ++ trailing ending) [] (all_single items ending asked line)
     (λ name has. let bad : false ≡ true = has in cc)
     (fine_items items ending (good_width _ _ line.width) (good_number _ _ line.max_bytes))

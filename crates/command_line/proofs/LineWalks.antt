@@ -1,6 +1,6 @@
 -- Clap's walk over the words of an item, over a line, and over what stands after `--`.
-use Rattle.std.proofs.Common.{◌≡◌, ◌∙◌, ◌++◌, ◌∷◌, [], ℕ, Bool, true, false, List, Option, Some, None, map, flat_map}
-use Rattle.std.proofs.Common.{refl, sym, ap, subst, codes, append-nil, append_assoc}
+use Rattle.std.proofs.Common.{◌≡◌, ◌∙◌, ◌++◌, ◌∷◌, [], Bool, List, None, Option, Some, ap, append-nil, append_assoc}
+use Rattle.std.proofs.Common.{codes, false, flat_map, map, refl, subst, sym, true, ℕ}
 use Rattle.std.specs.Prelude.{fold}
 use Rattle.std.specs.List.{All}
 use Rattle.std.specs.Str.{bytes_eq}
@@ -18,8 +18,8 @@ use Rattle.command_line.specs.CommandWords.{words_of, words_of_ending}
 use Rattle.command_line.proofs.FaultKinds.{IsRefusal, first_refuses, or_else_past}
 use Rattle.command_line.proofs.ItemUses.{held, held_with, id_in, item_fault, pend, row_in, taken_passes, use_is}
 use Rattle.command_line.proofs.ItemUses.{used_by, used_is, value_fault}
-use Rattle.command_line.proofs.ItemRuns.{Runs, behind, file_id, file_row, flag_no_file, is_file, listed}
-use Rattle.command_line.proofs.ItemRuns.{option_no_file, other_row, pended, settle_passes, settled_rows_are}
+use Rattle.command_line.proofs.ItemRuns.{Runs, file_id, file_row, flag_no_file, is_file, listed, option_no_file}
+use Rattle.command_line.proofs.ItemRuns.{other_row, pended, settle_passes, settled_rows_are, trailing}
 use Rattle.command_line.proofs.OptionNames.{by_flag, by_option, flag_takes, flagged, id_is, id_of, option_takes}
 use Rattle.command_line.proofs.OptionNames.{rule_at, shape, valued}
 use Rattle.command_line.proofs.WordTurns.{alone, dashes_next, dashes_turn, file_next, file_turn, flag_next, flag_turn}
@@ -198,8 +198,8 @@ kept_runs rows (joined option value) fresh fine = tt
 kept_runs rows (flag option) fresh fine = tt
 kept_runs rows (file name) fresh fine = (fresh, fine, tt)
 
-abbrev pub stands_behind : List Row → Item → Walk
-stands_behind rows item = stands (kept rows item) (carried item)
+abbrev pub stands_after : List Row → Item → Walk
+stands_after rows item = stands (kept rows item) (carried item)
 
 module _ (rows : List Row) (p : Option Item) (runs : Runs rows (listed p)) where
   -- the fault and the rows of an item that is used at once
@@ -224,7 +224,7 @@ module _ (rows : List Row) (p : Option Item) (runs : Runs rows (listed p)) where
 
   pub flag_leads : (option : Flag) → has_row (id_in (flag option)) (pended rows p) ≡ false
       → value_fault (flag option) ≡ []
-      → Leads (stands rows p) (flag_word option ∷ []) (stands_behind (pended rows p) (flag option))
+      → Leads (stands rows p) (flag_word option ∷ []) (stands_after (pended rows p) (flag option))
   flag_leads option fresh fine = leads_word _ _ _ (flag_now option rows p ∙ now_passes (flag option) fresh fine)
       (flag_next idle (held_with rows p) (place rows p) (flag_word option) (id_of (flagged option)) (flag_other option)
       (rule_at (flagged option)) (by_flag option) (flag_long option) (flag_takes option)
@@ -233,7 +233,7 @@ module _ (rows : List Row) (p : Option Item) (runs : Runs rows (listed p)) where
   pub joined_leads : (option : Valued) (value : Text) → has_row (id_in (joined option value)) (pended rows p) ≡ false
       → value_fault (joined option value) ≡ []
       → Leads (stands rows p) ((valued_word option ++ codes "=" ++ value) ∷ [])
-      (stands_behind (pended rows p) (joined option value))
+      (stands_after (pended rows p) (joined option value))
   joined_leads option value fresh fine = leads_word _ _ _
       (joined_now option value rows p ∙ now_passes (joined option value) fresh fine)
       (joined_next idle (held_with rows p) (place rows p) (valued_word option ++ codes "=" ++ value)
@@ -247,7 +247,7 @@ module _ (rows : List Row) (p : Option Item) (runs : Runs rows (listed p)) where
       ∙ λ i. wait_on (id_is (valued option) i) (settled_rows_are rows p runs i) (place rows p))
 
   pub file_leads : (name : Text) → IsPlain name → has_row file_id (pended rows p) ≡ false
-      → Leads (stands rows p) (name ∷ []) (stands_behind (pended rows p) (file name))
+      → Leads (stands rows p) (name ∷ []) (stands_after (pended rows p) (file name))
   file_leads name plain fresh = leads_word _ _ _
       (ap (λ b. turn (rest_at (held_with rows p) (position_in b)) name) fresh
       ∙ file_turn rows (pend p) name (alone name plain) ∙ settle_passes rows p runs)
@@ -258,7 +258,7 @@ module _ (rows : List Row) (p : Option Item) (runs : Runs rows (listed p)) where
       (sym (file_row (pended rows p) name)))
 
 pub value_leads : (option : Valued) (value : Text) (rows : List Row) → IsPlain value
-    → Leads (waits option rows) (value ∷ []) (stands_behind rows (apart option value))
+    → Leads (waits option rows) (value ∷ []) (stands_after rows (apart option value))
 value_leads option value rows plain = leads_word _ _ _
     (value_turn option rows (position_in (has_row file_id rows)) value (alone value plain))
     (value_next option rows (position_in (has_row file_id rows)) value (alone value plain)
@@ -267,7 +267,7 @@ value_leads option value rows plain = leads_word _ _ _
 
 item_leads : (item : Item) (rows : List Row) (p : Option Item) → Runs rows (listed p)
     → has_row (id_in item) (pended rows p) ≡ false → value_fault item ≡ [] → IsWritten item
-    → Leads (stands rows p) (words_of item) (stands_behind (pended rows p) item)
+    → Leads (stands rows p) (words_of item) (stands_after (pended rows p) item)
 item_leads (apart option value) rows p runs fresh fine written =
     leads_two _ _ _ (valued_word option) value (wants_leads rows p runs option)
     (value_leads option value (pended rows p) written)
@@ -313,8 +313,8 @@ passes_on w after words rest rows leads passes = record {
 }
 
 ending_passes : (ending : Ending) (rows : List Row) (p : Option Item) → Runs rows (listed p)
-    → Runs (pended rows p) (behind ending)
-    → Passes (stands rows p) (words_of_ending ending) (pended rows p ++ map row_in (behind ending))
+    → Runs (pended rows p) (trailing ending)
+    → Passes (stands rows p) (words_of_ending ending) (pended rows p ++ map row_in (trailing ending))
 ending_passes bare rows p runs later = subst (Passes (stands rows p) []) (sym (append-nil (pended rows p)))
     (passes_end (stands rows p) rows p refl runs)
 ending_passes dashes rows p runs later =
@@ -332,22 +332,22 @@ more_rows rows item rest = ap (λ rs. rs ++ map row_in rest) (kept_pended rows i
     ∙ append_assoc rows (row_in item ∷ []) (map row_in rest)
 
 pub line_passes : (items : List Item) (ending : Ending) (rows : List Row) (p : Option Item) → Runs rows (listed p)
-    → Runs (pended rows p) (items ++ behind ending) → All IsWritten items
+    → Runs (pended rows p) (items ++ trailing ending) → All IsWritten items
     → Passes (stands rows p) (flat_map words_of items ++ words_of_ending ending)
-    (pended rows p ++ map row_in (items ++ behind ending))
+    (pended rows p ++ map row_in (items ++ trailing ending))
 line_passes [] ending rows p runs later written = ending_passes ending rows p runs later
 line_passes (item ∷ items) ending rows p runs later written =
     let now = pended rows p in
     let rest = flat_map words_of items ++ words_of_ending ending in
     let further = line_passes items ending (kept now item) (carried item) (kept_runs now item later.0 later.1)
-    (subst (λ rs. Runs rs (items ++ behind ending)) (sym (kept_pended now item)) later.2)
+    (subst (λ rs. Runs rs (items ++ trailing ending)) (sym (kept_pended now item)) later.2)
     (All-tail IsWritten item items written) in
-    subst (λ ws. Passes (stands rows p) ws (now ++ map row_in (item ∷ items ++ behind ending)))
+    subst (λ ws. Passes (stands rows p) ws (now ++ map row_in (item ∷ items ++ trailing ending)))
     (sym (append_assoc (words_of item) (flat_map words_of items) (words_of_ending ending)))
-    (passes_on (stands rows p) (stands_behind now item) (words_of item) rest
-    (now ++ map row_in (item ∷ items ++ behind ending))
+    (passes_on (stands rows p) (stands_after now item) (words_of item) rest
+    (now ++ map row_in (item ∷ items ++ trailing ending))
     (item_leads item rows p runs later.0 later.1 (All-head IsWritten item items written))
-    (subst (Passes (stands_behind now item) rest) (more_rows now item (items ++ behind ending)) further))
+    (subst (Passes (stands_after now item) rest) (more_rows now item (items ++ trailing ending)) further))
 
 -- ---- a line and a word that asks for help
 

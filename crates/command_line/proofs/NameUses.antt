@@ -1,6 +1,6 @@
 -- The items that use a name, and what the grammar counts of them.
-use Rattle.std.proofs.Common.{◌≡◌, ◌∙◌, ◌++◌, ◌+◌, ◌||◌, ◌∷◌, [], Bool, cond, true, false, List, Option, Some, None}
-use Rattle.std.proofs.Common.{map, flat_map, length, codes, length-append, refl, sym, ap, arith, append-nil}
+use Rattle.std.proofs.Common.{◌≡◌, ◌∙◌, ◌++◌, ◌+◌, ◌||◌, ◌∷◌, [], Bool, List, None, Option, Some, ap, append-nil, arith}
+use Rattle.std.proofs.Common.{codes, cond, false, flat_map, length, length-append, map, refl, sym, true}
 use Rattle.std.specs.Prelude.{slice_get}
 use Rattle.std.specs.Str.{bytes_eq}
 use Rattle.std.specs.Option.{option_and_then, option_map_or}
@@ -10,11 +10,11 @@ use Rattle.clap.specs.Walk.{Row, Text, row_text}
 use Rattle.clap.specs.Values.{read_as, reading_of}
 use Rattle.clap.specs.declared.builder.value_parser.ValueParser.{ValueParser}
 use Rattle.clap.specs.declared.builder.value_parser.ValueParser.TheVariants as vp
-use Rattle.command_line.specs.CommandWords.{Ending, Flag, Item, Valued, apart, bare, dashes, file, file_behind}
-use Rattle.command_line.specs.CommandWords.{file_in, files_in, flag, footnotes, joined, max_bytes, named, no_decorate}
-use Rattle.command_line.specs.CommandWords.{references, rich, shared_footnotes, use_in, uses_in, value_in}
-use Rattle.command_line.specs.CommandWords.{values_in, width}
-use Rattle.command_line.proofs.ItemRuns.{behind}
+use Rattle.command_line.specs.CommandWords.{Ending, Flag, Item, Valued, apart, bare, dashes, file, file_after, file_in}
+use Rattle.command_line.specs.CommandWords.{files_in, flag, footnotes, joined, max_bytes, named, no_decorate}
+use Rattle.command_line.specs.CommandWords.{references, rich, shared_footnotes, use_in, uses_in, value_in, values_in}
+use Rattle.command_line.specs.CommandWords.{width}
+use Rattle.command_line.proofs.ItemRuns.{trailing}
 use Rattle.command_line.proofs.ItemUses.{id_in, name_of, numbers, parser_at, row_in, value_of}
 use Rattle.command_line.proofs.FoundRows.{first_some, row_at}
 use Rattle.command_line.proofs.OptionNames.{Name, filed, flagged, id_of, valued}
@@ -113,49 +113,49 @@ files_are (item ∷ rest) = (λ i. file_one item i ++ files_are rest i) ∙ sym 
 
 -- ---- the file after `--` is the file of one more item
 
-no_value_behind : (option : Valued) (ending : Ending) → values_in option (behind ending) ≡ []
-no_value_behind option bare = refl
-no_value_behind option dashes = refl
-no_value_behind width (named name) = refl
-no_value_behind references (named name) = refl
-no_value_behind max_bytes (named name) = refl
+no_value_after : (option : Valued) (ending : Ending) → values_in option (trailing ending) ≡ []
+no_value_after option bare = refl
+no_value_after option dashes = refl
+no_value_after width (named name) = refl
+no_value_after references (named name) = refl
+no_value_after max_bytes (named name) = refl
 
 pub values_all : (option : Valued) (items : List Item) (ending : Ending)
-    → values_in option items ≡ values_at (valued option) (items ++ behind ending)
+    → values_in option items ≡ values_at (valued option) (items ++ trailing ending)
 values_all option items ending =
     sym (append-nil (values_in option items)) ∙ ap (λ vs. values_in option items ++ vs)
-    (sym (no_value_behind option ending)) ∙ sym (flat_map-append (value_in option) items (behind ending))
-    ∙ values_are option (items ++ behind ending)
+    (sym (no_value_after option ending)) ∙ sym (flat_map-append (value_in option) items (trailing ending))
+    ∙ values_are option (items ++ trailing ending)
 
-no_use_behind : (option : Flag) (ending : Ending) → uses_in option (behind ending) ≡ 0
-no_use_behind option bare = refl
-no_use_behind option dashes = refl
-no_use_behind rich (named name) = refl
-no_use_behind no_decorate (named name) = refl
-no_use_behind footnotes (named name) = refl
-no_use_behind shared_footnotes (named name) = refl
+no_use_after : (option : Flag) (ending : Ending) → uses_in option (trailing ending) ≡ 0
+no_use_after option bare = refl
+no_use_after option dashes = refl
+no_use_after rich (named name) = refl
+no_use_after no_decorate (named name) = refl
+no_use_after footnotes (named name) = refl
+no_use_after shared_footnotes (named name) = refl
 
 uses-append : (option : Flag) (xs ys : List Item) → uses_in option (xs ++ ys) ≡ uses_in option xs + uses_in option ys
 uses-append option [] ys = omega arith
 uses-append option (x ∷ xs) ys = let later = uses-append option xs ys in omega arith
 
 pub uses_all : (option : Flag) (items : List Item) (ending : Ending) → uses_in option items
-    ≡ length (uses_at (flagged option) (items ++ behind ending))
+    ≡ length (uses_at (flagged option) (items ++ trailing ending))
 uses_all option items ending =
-    let none = no_use_behind option ending in
-    let both = uses-append option items (behind ending) in
-    let same : uses_in option items ≡ uses_in option (items ++ behind ending) = omega arith in
-    same ∙ uses_are option (items ++ behind ending)
+    let none = no_use_after option ending in
+    let both = uses-append option items (trailing ending) in
+    let same : uses_in option items ≡ uses_in option (items ++ trailing ending) = omega arith in
+    same ∙ uses_are option (items ++ trailing ending)
 
-file_behind_is : (ending : Ending) → flat_map file_in (behind ending) ≡ file_behind ending
-file_behind_is bare = refl
-file_behind_is dashes = refl
-file_behind_is (named name) = refl
+file_after_is : (ending : Ending) → flat_map file_in (trailing ending) ≡ file_after ending
+file_after_is bare = refl
+file_after_is dashes = refl
+file_after_is (named name) = refl
 
-pub files_all : (items : List Item) (ending : Ending) → files_in items ending ≡ values_at filed (items ++ behind ending)
+pub files_all : (items : List Item) (ending : Ending) → files_in items ending ≡ values_at filed (items ++ trailing ending)
 files_all items ending =
-    ap (λ fs. flat_map file_in items ++ fs) (sym (file_behind_is ending)) ∙ sym
-    (flat_map-append file_in items (behind ending)) ∙ files_are (items ++ behind ending)
+    ap (λ fs. flat_map file_in items ++ fs) (sym (file_after_is ending)) ∙ sym
+    (flat_map-append file_in items (trailing ending)) ∙ files_are (items ++ trailing ending)
 
 -- ---- the row of a name
 

@@ -1,6 +1,6 @@
 -- The values that clap takes for a number are those that say one.
-use Rattle.std.proofs.Common.{◌≡◌, ◌∙◌, ℕ, ℤ, Bool, List, [], ◌∷◌, true, false, refl, sym, subst, ap, arith, pos}
-use Rattle.std.proofs.Common.{negsuc}
+use Rattle.std.proofs.Common.{◌≡◌, ◌∙◌, [], ◌∷◌, Bool, List, ap, arith, false, negsuc, pos, refl, subst, sym, true, ℕ}
+use Rattle.std.proofs.Common.{ℤ}
 use Rattle.std.proofs.lemmas.Int.{ints}
 use Rattle.std.specs.Prelude.{FitsSigned, ◌≤ℤ◌}
 use Rattle.std.specs.Int.{w64}

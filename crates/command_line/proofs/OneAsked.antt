@@ -1,19 +1,19 @@
 -- Words ask for one thing: the rows of two lines with the same words are the same.
-use Rattle.std.proofs.Common.{◌≡◌, ◌∙◌, ◌++◌, ◌∷◌, [], ℕ, Bool, zero, suc, not, List, Option, Some, None, true, map}
-use Rattle.std.proofs.Common.{length, sym, ap, subst}
+use Rattle.std.proofs.Common.{◌≡◌, ◌∙◌, ◌++◌, ◌∷◌, [], Bool, List, None, Option, Some, ap, length, map, not, subst, suc}
+use Rattle.std.proofs.Common.{sym, true, zero, ℕ}
 use Rattle.std.specs.Option.{option_and_then}
 use Rattle.clap.specs.Walk.{Text}
 use Rattle.command_line.specs.CommandWords.{Asked, Asks, Flag, GivesNumber, GivesText, GivesWidth, IsGiven, Item}
 use Rattle.command_line.specs.CommandWords.{Valued, files_in, footnotes, max_bytes, no_decorate, references, rich}
 use Rattle.command_line.specs.CommandWords.{shared_footnotes, uses_in, values_in, width}
 use Rattle.command_line.proofs.FoundRows.{row_at}
-use Rattle.command_line.proofs.ItemRuns.{behind}
+use Rattle.command_line.proofs.ItemRuns.{trailing}
 use Rattle.command_line.proofs.ItemUses.{value_of}
 use Rattle.command_line.proofs.NameUses.{files_all, first_of_all, first_text, uses_all, uses_at, value_found}
 use Rattle.command_line.proofs.NameUses.{values_all, values_at}
 use Rattle.command_line.proofs.NumberValues.{says_one}
 use Rattle.command_line.proofs.OptionNames.{Name, filed, flagged, id_of, valued}
-use Rattle.command_line.proofs.RequestFields.{not_same, text_told}
+use Rattle.command_line.proofs.RequestFields.{not_same, text_emitted}
 use Rattle.command_line.proofs.WordOutcomes.{asks_passes}
 
 some_same : (v w : Text) → Some v ≡ Some w → v ≡ w
@@ -43,7 +43,7 @@ one_number (v ∷ x ∷ a) (w ∷ b) m n same one other = absurd one
 
 one_text : (a b : List Text) (s t : Option Text) → first_of_all a ≡ first_of_all b → GivesText a s → GivesText b t
     → s ≡ t
-one_text a b s t same one other = sym (text_told a s one) ∙ same ∙ text_told b t other
+one_text a b s t same one other = sym (text_emitted a s one) ∙ same ∙ text_emitted b t other
 
 given_some : (n : ℕ) (given : Bool) → IsGiven (suc n) given → given ≡ true
 given_some zero given is = is
@@ -71,10 +71,10 @@ one_asked words one other asks too = λ i. record {
 }
   where
     all : List Item
-    all = asks.items ++ behind asks.ending
+    all = asks.items ++ trailing asks.ending
 
     more : List Item
-    more = too.items ++ behind too.ending
+    more = too.items ++ trailing too.ending
 
     same_first : (name : Name) → first_of_all (values_at name all) ≡ first_of_all (values_at name more)
     same_first name =

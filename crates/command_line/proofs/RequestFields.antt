@@ -1,6 +1,6 @@
 -- What is read of the values that clap found is what the line asks for.
-use Rattle.std.proofs.Common.{◌≡◌, ◌∙◌, ◌++◌, ◌∷◌, [], ℕ, Bool, not, true, false, List, Option, Some, None, map, length}
-use Rattle.std.proofs.Common.{codes, refl, sym, ap, subst}
+use Rattle.std.proofs.Common.{◌≡◌, ◌∙◌, ◌++◌, ◌∷◌, [], Bool, List, None, Option, Some, ap, codes, false, length, map}
+use Rattle.std.proofs.Common.{not, refl, subst, sym, true, ℕ}
 use Rattle.std.specs.Prelude.{fold}
 use Rattle.std.specs.Option.{option_and_then, option_map_or}
 use Rattle.clap.specs.Walk.{Text, row_text, rows_of, with_default}
@@ -11,11 +11,11 @@ use Rattle.clap.specs.declared.parser.matches.Found.{Found}
 use Rattle.clap.proofs.WalkLemmas.{first_value-rows, one_text-rows}
 use Rattle.command_line.specs.CommandRules.{program}
 use Rattle.command_line.specs.CommandWords.{Asked, Ending, Flag, GivesNumber, GivesText, GivesWidth, IsGiven, IsLine}
-use Rattle.command_line.specs.CommandWords.{Item, Valued, files_in, footnotes, max_bytes, no_decorate, references}
-use Rattle.command_line.specs.CommandWords.{rich, shared_footnotes, uses_in, values_in, width}
-use Rattle.command_line.specs.FoundWords.{IsFound, TellsFlag, TellsNumber, TellsWidth}
+use Rattle.command_line.specs.CommandWords.{Item, Valued, files_in, footnotes, max_bytes, no_decorate, references, rich}
+use Rattle.command_line.specs.CommandWords.{shared_footnotes, uses_in, values_in, width}
+use Rattle.command_line.specs.FoundWords.{IsFound, EmitsFlag, EmitsNumber, EmitsWidth}
 use Rattle.command_line.proofs.FoundRows.{all_rows, first_some, found_at, row_at, row_without}
-use Rattle.command_line.proofs.ItemRuns.{behind}
+use Rattle.command_line.proofs.ItemRuns.{trailing}
 use Rattle.command_line.proofs.ItemUses.{row_in, value_of}
 use Rattle.command_line.proofs.LineItems.{Slot, line_runs, none_here, one_here, slot_at}
 use Rattle.command_line.proofs.LineWalks.{rows_over, stands}
@@ -63,23 +63,23 @@ file_found found words all finds =
 abbrev number_text : List Text → Option Text
 number_text values = option_map_or (λ v. Some (without_minus v)) (first_of_all values) None
 
-width_told : (values : List Text) (text : Option Text) (columns n : ℕ) → text ≡ number_text values
-    → TellsWidth text columns → GivesWidth values n → columns ≡ n
-width_told [] text columns n is tells gives = tells.0 is ∙ sym gives
-width_told (v ∷ []) text columns n is tells gives = tells.1 v n is gives
-width_told (v ∷ w ∷ values) text columns n is tells gives = absurd gives
+width_emitted : (values : List Text) (text : Option Text) (columns n : ℕ) → text ≡ number_text values
+    → EmitsWidth text columns → GivesWidth values n → columns ≡ n
+width_emitted [] text columns n is emits gives = emits.0 is ∙ sym gives
+width_emitted (v ∷ []) text columns n is emits gives = emits.1 v n is gives
+width_emitted (v ∷ w ∷ values) text columns n is emits gives = absurd gives
 
-number_told : (values : List Text) (text : Option Text) (number n : Option ℕ) → text ≡ number_text values
-    → TellsNumber text number → GivesNumber values n → number ≡ n
-number_told [] text number n is tells gives = tells.0 is ∙ sym gives
-number_told (v ∷ []) text number None is tells gives = absurd gives
-number_told (v ∷ []) text number (Some n) is tells gives = tells.1 v n is gives
-number_told (v ∷ w ∷ values) text number n is tells gives = absurd gives
+number_emitted : (values : List Text) (text : Option Text) (number n : Option ℕ) → text ≡ number_text values
+    → EmitsNumber text number → GivesNumber values n → number ≡ n
+number_emitted [] text number n is emits gives = emits.0 is ∙ sym gives
+number_emitted (v ∷ []) text number None is emits gives = absurd gives
+number_emitted (v ∷ []) text number (Some n) is emits gives = emits.1 v n is gives
+number_emitted (v ∷ w ∷ values) text number n is emits gives = absurd gives
 
-pub text_told : (values : List Text) (text : Option Text) → GivesText values text → first_of_all values ≡ text
-text_told [] text gives = sym gives
-text_told (v ∷ []) text gives = sym gives
-text_told (v ∷ w ∷ values) text gives = absurd gives
+pub text_emitted : (values : List Text) (text : Option Text) → GivesText values text → first_of_all values ≡ text
+text_emitted [] text gives = sym gives
+text_emitted (v ∷ []) text gives = sym gives
+text_emitted (v ∷ w ∷ values) text gives = absurd gives
 
 given_none : (count : ℕ) (given : Bool) → count ≡ 0 → IsGiven count given → given ≡ false
 given_none count given none is = subst (λ n. IsGiven n given) none is
@@ -87,19 +87,19 @@ given_none count given none is = subst (λ n. IsGiven n given) none is
 given_one : (count : ℕ) (given : Bool) → count ≡ 1 → IsGiven count given → given ≡ true
 given_one count given one is = subst (λ n. IsGiven n given) one is
 
-flag_told : (option : Flag) (all : List Item) (count : ℕ) (text : Option Text) (told given : Bool)
+flag_emitted : (option : Flag) (all : List Item) (count : ℕ) (text : Option Text) (emitted given : Bool)
     → Slot (flagged option) (uses_at (flagged option) all) → count ≡ length (uses_at (flagged option) all)
-    → text ≡ text_in (flagged option) all (row_without (flagged option)) → TellsFlag text told → IsGiven count given
-    → told ≡ given
-flag_told option all count text told given (none_here none) counts is tells gives =
+    → text ≡ text_in (flagged option) all (row_without (flagged option)) → EmitsFlag text emitted → IsGiven count given
+    → emitted ≡ given
+flag_emitted option all count text emitted given (none_here none) counts is emits gives =
     let false_text : text ≡ Some (codes "false") =
     is ∙ ap (λ us. option_map_or (λ v. Some v) (first_of_all (map value_of us)) (Some (codes "false"))) none in
-    tells.1 false_text ∙ sym (given_none count given (counts ∙ ap length none) gives)
-flag_told option all count text told given (one_here item one same fine) counts is tells gives =
+    emits.1 false_text ∙ sym (given_none count given (counts ∙ ap length none) gives)
+flag_emitted option all count text emitted given (one_here item one same fine) counts is emits gives =
     let true_text : text ≡ Some (codes "true") =
     is ∙ ap (λ us. option_map_or (λ v. Some v) (first_of_all (map value_of us)) (Some (codes "false"))) one
     ∙ ap (λ v. Some v) (flag_value option item same) in
-    tells.0 true_text ∙ sym (given_one count given (counts ∙ ap length one) gives)
+    emits.0 true_text ∙ sym (given_one count given (counts ∙ ap length one) gives)
 
 pub not_same : (a b : Bool) → not a ≡ not b → a ≡ b
 not_same true true e = refl
@@ -108,14 +108,14 @@ not_same false true e = cc
 not_same false false e = refl
 
 pub found_is_asked : (found : Found) (words : List Text) (items : List Item) (ending : Ending) (read asked : Asked)
-    → Finds found words (items ++ behind ending) → IsLine items ending asked → IsFound found read → read ≡ asked
-found_is_asked found words items ending read asked finds line tells = λ i. record {
+    → Finds found words (items ++ trailing ending) → IsLine items ending asked → IsFound found read → read ≡ asked
+found_is_asked found words items ending read asked finds line emits = λ i. record {
   width = columns i;
-  rich = flag_is rich read.rich asked.rich tells.rich line.rich i;
+  rich = flag_is rich read.rich asked.rich emits.rich line.rich i;
   decorate = not_same read.decorate asked.decorate
-      (flag_is no_decorate (not read.decorate) (not asked.decorate) tells.decorate line.decorate) i;
-  footnotes = flag_is footnotes read.footnotes asked.footnotes tells.footnotes line.footnotes i;
-  shared_footnotes = flag_is shared_footnotes read.shared_footnotes asked.shared_footnotes tells.shared_footnotes
+      (flag_is no_decorate (not read.decorate) (not asked.decorate) emits.decorate line.decorate) i;
+  footnotes = flag_is footnotes read.footnotes asked.footnotes emits.footnotes line.footnotes i;
+  shared_footnotes = flag_is shared_footnotes read.shared_footnotes asked.shared_footnotes emits.shared_footnotes
       line.shared_footnotes i;
   references = table i;
   max_bytes = most i;
@@ -123,31 +123,31 @@ found_is_asked found words items ending read asked finds line tells = λ i. reco
 }
   where
     all : List Item
-    all = items ++ behind ending
+    all = items ++ trailing ending
 
     columns : read.width ≡ asked.width
-    columns = width_told (values_in width items) (one_text found (id_of (valued width))) read.width asked.width
+    columns = width_emitted (values_in width items) (one_text found (id_of (valued width))) read.width asked.width
         (text_found found words all finds (valued width) ∙ ap number_text (sym (values_all width items ending)))
-        tells.width line.width
+        emits.width line.width
 
     most : read.max_bytes ≡ asked.max_bytes
-    most = number_told (values_in max_bytes items) (one_text found (id_of (valued max_bytes))) read.max_bytes
+    most = number_emitted (values_in max_bytes items) (one_text found (id_of (valued max_bytes))) read.max_bytes
         asked.max_bytes
         (text_found found words all finds (valued max_bytes) ∙ ap number_text (sym (values_all max_bytes items ending)))
-        tells.max_bytes line.max_bytes
+        emits.max_bytes line.max_bytes
 
     table : read.references ≡ asked.references
-    table = tells.references ∙ option_found found words all finds references
+    table = emits.references ∙ option_found found words all finds references
         ∙ ap first_of_all (sym (values_all references items ending))
-        ∙ text_told (values_in references items) asked.references line.references
+        ∙ text_emitted (values_in references items) asked.references line.references
 
     page : read.file ≡ asked.file
-    page = tells.file ∙ file_found found words all finds ∙ ap first_of_all (sym (files_all items ending))
-        ∙ text_told (files_in items ending) asked.file line.file
+    page = emits.file ∙ file_found found words all finds ∙ ap first_of_all (sym (files_all items ending))
+        ∙ text_emitted (files_in items ending) asked.file line.file
 
-    flag_is : (option : Flag) (told given : Bool) → TellsFlag (one_text found (id_of (flagged option))) told
-        → IsGiven (uses_in option items) given → told ≡ given
-    flag_is option told given tell gives =
-        flag_told option all (uses_in option items) (one_text found (id_of (flagged option))) told given
+    flag_is : (option : Flag) (emitted given : Bool) → EmitsFlag (one_text found (id_of (flagged option))) emitted
+        → IsGiven (uses_in option items) given → emitted ≡ given
+    flag_is option emitted given emit gives =
+        flag_emitted option all (uses_in option items) (one_text found (id_of (flagged option))) emitted given
         (slot_at (flagged option) [] all (line_runs items ending asked line))
-        (uses_all option items ending) (text_found found words all finds (flagged option)) tell gives
+        (uses_all option items ending) (text_found found words all finds (flagged option)) emit gives

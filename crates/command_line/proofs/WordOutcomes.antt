@@ -1,6 +1,6 @@
 -- What the kinds of clap's error say of the words, and what its matches say.
-use Rattle.std.proofs.Common.{◌≡◌, ◌∙◌, ◌⊎◌, ◌++◌, ◌∷◌, [], true, List, None, String, map, string_bytes, refl, sym, ap}
-use Rattle.std.proofs.Common.{subst, inl, inr, append-nil}
+use Rattle.std.proofs.Common.{◌≡◌, ◌∙◌, ◌⊎◌, ◌++◌, ◌∷◌, [], List, None, String, ap, append-nil, inl, inr, map, refl}
+use Rattle.std.proofs.Common.{string_bytes, subst, sym, true}
 use Rattle.std.proofs.lemmas.Str.{IsUtf8-string_bytes}
 use Rattle.clap.specs.Walk.{Text, rows_of}
 use Rattle.clap.specs.Kinds.{HasKind, IsAmong}
@@ -19,13 +19,13 @@ use Rattle.command_line.specs.declared.words.WordFault.{WordFault}
 use Rattle.command_line.specs.declared.words.WordFault.TheVariants as faults
 use Rattle.command_line.proofs.FaultKinds.{no_kind, no_refusal, refusal_harmless}
 use Rattle.command_line.proofs.FoundRows.{all_faults}
-use Rattle.command_line.proofs.ItemRuns.{Runs, behind}
+use Rattle.command_line.proofs.ItemRuns.{Runs, trailing}
 use Rattle.command_line.proofs.ItemUses.{row_in}
 use Rattle.command_line.proofs.LineItems.{line_runs, runs_ask}
 use Rattle.command_line.proofs.LineWalks.{Passes, fault_over, line_helps, line_passes, stands}
 use Rattle.command_line.proofs.OptionNames.{free_program}
 use Rattle.command_line.proofs.RequestFields.{found_is_asked}
-use Rattle.command_line.proofs.WordVerdicts.{AreTexts, Told, Verdict, allowed, forbidden, told_help, told_line}
+use Rattle.command_line.proofs.WordVerdicts.{AreTexts, Emitted, Verdict, allowed, emitted_help, emitted_line, forbidden}
 use Rattle.command_line.proofs.WordVerdicts.{verdicts}
 
 pub are_texts : {Z : Type 0} (words : List (String Z)) → AreTexts (map string_bytes words)
@@ -35,9 +35,9 @@ are_texts (word ∷ words) = (IsUtf8-string_bytes word, are_texts words)
 -- ---- a line passes
 
 pub asks_passes : (words : List Text) (asked : Asked) (asks : Asks words asked)
-    → Passes (stands [] None) words (map row_in (asks.items ++ behind asks.ending))
+    → Passes (stands [] None) words (map row_in (asks.items ++ trailing asks.ending))
 asks_passes words asked asks =
-    subst (λ ws. Passes (stands [] None) ws (map row_in (asks.items ++ behind asks.ending))) (sym asks.line)
+    subst (λ ws. Passes (stands [] None) ws (map row_in (asks.items ++ trailing asks.ending))) (sym asks.line)
     (line_passes asks.items asks.ending [] None tt (line_runs asks.items asks.ending asked asks.asks) asks.asks.written)
 
 pub asked_passes : (words : List Text) (asked : Asked) → Asks words asked → fault_of program words ≡ []
@@ -54,17 +54,17 @@ help_fault words asks =
 
 pub takes_line : (words : List Text) (found : Found) (read : Asked) → AreTexts words → fault_of program words ≡ []
     → rows_of found ≡ matches_of program words → IsFound found read → Asks words read
-takes_line words found read texts none rows tells = go ((verdicts words texts).at_rest [] None)
+takes_line words found read texts none rows emits = go ((verdicts words texts).at_rest [] None)
   where
-    as_told : Told [] words → Asks words read
-    as_told (told_line items ending is written runs) =
+    as_emitted : Emitted [] words → Asks words read
+    as_emitted (emitted_line items ending is written runs) =
         let line = runs_ask items ending written runs in
         let passes = asks_passes words line.asked
         (record { items = items; ending = ending; line = is; asks = line.asks }) in
         let same = found_is_asked found words items ending read line.asked (record { rows = rows; walk = passes.found })
-        line.asks tells in
+        line.asks emits in
         record { items = items; ending = ending; line = is; asks = subst (IsLine items ending) (sym same) line.asks }
-    as_told (told_help items word rest is written help runs) =
+    as_emitted (emitted_help items word rest is written help runs) =
         let asks = runs_ask items bare written (subst (Runs []) (sym (append-nil items)) runs) in
         absurd
         (no_kind
@@ -81,18 +81,18 @@ takes_line words found read texts none rows tells = go ((verdicts words texts).a
         })) ∙ none))
 
     go : Verdict [] None words (fault_over (stands [] None) words) → Asks words read
-    go (allowed runs told) = as_told told
+    go (allowed runs emitted) = as_emitted emitted
     go (forbidden refused) = absurd (no_refusal _ refused (sym (all_faults words) ∙ none))
 
 pub helps_asked : (words : List Text) → AreTexts words → IsAmong DisplayHelp (fault_of program words) → AsksHelp words
 helps_asked words texts among = go ((verdicts words texts).at_rest [] None)
   where
-    as_told : Told [] words → AsksHelp words
-    as_told (told_line items ending is written runs) =
+    as_emitted : Emitted [] words → AsksHelp words
+    as_emitted (emitted_line items ending is written runs) =
         let line = runs_ask items ending written runs in
         absurd (subst (IsAmong DisplayHelp) (asked_passes words line.asked
         (record { items = items; ending = ending; line = is; asks = line.asks })) among)
-    as_told (told_help items word rest is written help runs) =
+    as_emitted (emitted_help items word rest is written help runs) =
         let asks = runs_ask items bare written (subst (Runs []) (sym (append-nil items)) runs) in
         record {
           items = items;
@@ -106,7 +106,7 @@ helps_asked words texts among = go ((verdicts words texts).at_rest [] None)
         }
 
     go : Verdict [] None words (fault_over (stands [] None) words) → AsksHelp words
-    go (allowed runs told) = as_told told
+    go (allowed runs emitted) = as_emitted emitted
     go (forbidden refused) = absurd (refusal_harmless _ refused (subst (IsAmong DisplayHelp) (all_faults words) among))
 
 -- ---- kinds and faults

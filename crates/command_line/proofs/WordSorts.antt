@@ -1,6 +1,6 @@
 -- What a word of text can be: one of the grammar's, one that asks for help, or one that clap refuses.
-use Rattle.std.proofs.Common.{◌≡◌, ◌∙◌, ◌++◌, ◌+◌, ◌==◌, ℕ, Bool, true, false, suc, List, [], ◌∷◌, take, drop, Option}
-use Rattle.std.proofs.Common.{Some, None, refl, sym, ap, subst, inl, inr, arith, codes, eqb-true}
+use Rattle.std.proofs.Common.{◌≡◌, ◌∙◌, ◌++◌, ◌+◌, ◌==◌, [], ◌∷◌, Bool, List, None, Option, Some, ap, arith, codes}
+use Rattle.std.proofs.Common.{drop, eqb-true, false, inl, inr, refl, subst, suc, sym, take, true, ℕ}
 use Rattle.std.specs.Prelude.{if◌then◌else◌, slice_get}
 use Rattle.std.specs.List.{before_first, after_first, list_any, position_or_len}
 use Rattle.std.specs.Str.{IsUtf8, bytes_eq, chars, encode_utf8_all}
@@ -183,9 +183,9 @@ hyphen_first text = refl
 -- a text that is not empty begins with a character
 some_letter : (y : ℕ) (ys : List ℕ) → IsUtf8 (45 ∷ y ∷ ys) → slice_get (chars (y ∷ ys)) 0 ≡ None → ⊥
 some_letter y ys utf8 none =
-    let behind = IsUtf8-past_char (45 ∷ y ∷ ys) (y ∷ ys) 45 utf8 (hyphen_first (y ∷ ys)) in
+    let trailing = IsUtf8-past_char (45 ∷ y ∷ ys) (y ∷ ys) 45 utf8 (hyphen_first (y ∷ ys)) in
     let same : [] ≡ y ∷ ys = ap encode_utf8_all (sym (no_element (chars (y ∷ ys)) none))
-    ∙ encodes-chars (y ∷ ys) behind in
+    ∙ encodes-chars (y ∷ ys) trailing in
     cc
 
 letter_sort : (y : ℕ) (ys : List ℕ) → IsUtf8 (45 ∷ y ∷ ys) → (y == 45) ≡ false → Sort (45 ∷ y ∷ ys)
@@ -218,7 +218,7 @@ sort_of (x ∷ xs) utf8 = first (x == 45) refl xs refl
 
         both : y ≡ 45 → (zs : List ℕ) → ys ≡ zs → Sort (x ∷ xs)
         both b [] none = dashing (same ∙ λ i. 45 ∷ b i ∷ none i)
-        both b (z ∷ zs) behind = subst Sort (sym (same ∙ λ i. 45 ∷ b i ∷ behind i)) (long_sort z zs)
+        both b (z ∷ zs) trailing = subst Sort (sym (same ∙ λ i. 45 ∷ b i ∷ trailing i)) (long_sort z zs)
 
         second : (t : Bool) → (y == 45) ≡ t → Sort (x ∷ xs)
         second true t = both (eqb-true y 45 t) ys refl

@@ -1,12 +1,11 @@
 -- What clap's walk makes of one word, by what the word is and what waits for it.
-use Rattle.std.proofs.Common.{◌≡◌, ◌∙◌, ◌==◌, ◌&&◌, ◌<◌, ℕ, Bool, true, false, List, [], ◌∷◌, Option, Some, None, refl}
-use Rattle.std.proofs.Common.{sym, ap, subst, inl, inr, arith, codes, eqb-true, lt-ltb}
+use Rattle.std.proofs.Common.{◌≡◌, ◌∙◌, ◌==◌, ◌&&◌, ◌<◌, [], ◌∷◌, Bool, List, None, Option, Some, ap, arith, codes}
+use Rattle.std.proofs.Common.{eqb-true, false, inl, inr, lt-ltb, refl, subst, sym, true, ℕ}
 use Rattle.std.specs.Prelude.{nat_lt, slice_get}
 use Rattle.std.specs.Str.{bytes_eq, chars}
 use Rattle.clap.specs.Lexer.{long_of, short_of}
-use Rattle.clap.specs.Walk.{Held, Row, Rule, Text, Waiting, Walk, arg_by_long}
-use Rattle.clap.specs.Walk.{idle, option, positional, reacted, settled, settled_rows, subcommand_met}
-use Rattle.clap.specs.Walk.{takes_values, walked}
+use Rattle.clap.specs.Walk.{Held, Row, Rule, Text, Waiting, Walk, arg_by_long, idle, option, positional, reacted}
+use Rattle.clap.specs.Walk.{settled, settled_rows, subcommand_met, takes_values, walked}
 use Rattle.clap.specs.Kinds.{Kinds, or_else}
 use Rattle.clap.specs.Faults.{flags_fault, react_fault, settle_fault, turn_fault}
 use Rattle.clap.specs.declared.error.kind.ErrorKind.{ErrorKind}

@@ -1,6 +1,6 @@
 -- Words that clap does not refuse are a line, or a line and a word that asks for help.
-use Rattle.std.proofs.Common.{◌≡◌, ◌∙◌, ◌++◌, ◌∷◌, [], ℕ, Bool, true, false, List, Option, Some, flat_map, refl, sym}
-use Rattle.std.proofs.Common.{ap, subst, codes, append_assoc}
+use Rattle.std.proofs.Common.{◌≡◌, ◌∙◌, ◌++◌, ◌∷◌, [], Bool, List, Option, Some, ap, append_assoc, codes, false}
+use Rattle.std.proofs.Common.{flat_map, refl, subst, sym, true, ℕ}
 use Rattle.std.specs.List.{All}
 use Rattle.std.specs.Option.{option_map_or}
 use Rattle.std.specs.Str.{IsUtf8}
@@ -15,48 +15,48 @@ use Rattle.command_line.specs.CommandWords.{words_of_ending}
 use Rattle.command_line.proofs.FaultKinds.{IsRefusal, first_refuses, or_else_past, refusal_as}
 use Rattle.command_line.proofs.ItemUses.{Takes, bare_use, held, held_with, id_in, item_fault, pend, row_in, taken}
 use Rattle.command_line.proofs.ItemUses.{takes, untaken, value_fault}
-use Rattle.command_line.proofs.ItemRuns.{Runs, Settles, behind, file_id, listed, pended, settle_passes}
-use Rattle.command_line.proofs.ItemRuns.{settled_rows_are, settles, settles_badly, settles_well}
+use Rattle.command_line.proofs.ItemRuns.{Runs, Settles, file_id, listed, pended, settle_passes, settled_rows_are}
+use Rattle.command_line.proofs.ItemRuns.{settles, settles_badly, settles_well, trailing}
 use Rattle.command_line.proofs.LineWalks.{Leads, carried, dashes_leads, fault_end, fault_first, fault_next, fault_over}
 use Rattle.command_line.proofs.LineWalks.{file_leads, flag_leads, flag_long, flag_now, flag_other, joined_leads}
 use Rattle.command_line.proofs.LineWalks.{joined_long, joined_now, joined_other, kept, kept_pended, name_leads, place}
-use Rattle.command_line.proofs.LineWalks.{position_in, settling, stands, stands_behind, trails, value_leads, waits}
+use Rattle.command_line.proofs.LineWalks.{position_in, settling, stands, stands_after, trails, value_leads, waits}
 use Rattle.command_line.proofs.LineWalks.{wants_leads, wants_long, wants_now, wants_other}
 use Rattle.command_line.proofs.OptionNames.{by_flag, by_id, by_option, flag_takes, flagged, id_of, option_takes}
 use Rattle.command_line.proofs.OptionNames.{rule_at, shape, valued}
 use Rattle.command_line.proofs.WordSorts.{Sort, dashing, flagging, helping, joining, sort_of, standing, straying}
 use Rattle.command_line.proofs.WordSorts.{wanting}
-use Rattle.command_line.proofs.WordTurns.{alone, dashes_next, dashes_turn, file_turn, flag_turn, help_turn}
-use Rattle.command_line.proofs.WordTurns.{joined_turn, rest_at, second_turn, trail_at, trail_second, trail_turn, turn}
-use Rattle.command_line.proofs.WordTurns.{two_hyphens, waiting_for, wants_turn}
+use Rattle.command_line.proofs.WordTurns.{alone, dashes_next, dashes_turn, file_turn, flag_turn, help_turn, joined_turn}
+use Rattle.command_line.proofs.WordTurns.{rest_at, second_turn, trail_at, trail_second, trail_turn, turn, two_hyphens}
+use Rattle.command_line.proofs.WordTurns.{waiting_for, wants_turn}
 
 -- The words go on where the rows end: to the end of a line, or to a word that asks for help.
-pub data Told (rows : List Row) (words : List Text) : Type 0 where
-  told_line : (items : List Item) (ending : Ending) → words ≡ flat_map words_of items ++ words_of_ending ending
-      → All IsWritten items → Runs rows (items ++ behind ending) → Told rows words
-  told_help : (items : List Item) (word : Text) (rest : List Text) → words ≡ flat_map words_of items ++ word ∷ rest
-      → All IsWritten items → IsHelpWord word → Runs rows items → Told rows words
+pub data Emitted (rows : List Row) (words : List Text) : Type 0 where
+  emitted_line : (items : List Item) (ending : Ending) → words ≡ flat_map words_of items ++ words_of_ending ending
+      → All IsWritten items → Runs rows (items ++ trailing ending) → Emitted rows words
+  emitted_help : (items : List Item) (word : Text) (rest : List Text) → words ≡ flat_map words_of items ++ word ∷ rest
+      → All IsWritten items → IsHelpWord word → Runs rows items → Emitted rows words
 
-told_item : (rows : List Row) (item : Item) (words : List Text) → has_row (id_in item) rows ≡ false
-    → value_fault item ≡ [] → IsWritten item → Told (rows ++ row_in item ∷ []) words
-    → Told rows (words_of item ++ words)
-told_item rows item words fresh fine written (told_line items ending is all runs) =
-    told_line (item ∷ items) ending (ap (λ ws. words_of item ++ ws) is ∙ sym
+emitted_item : (rows : List Row) (item : Item) (words : List Text) → has_row (id_in item) rows ≡ false
+    → value_fault item ≡ [] → IsWritten item → Emitted (rows ++ row_in item ∷ []) words
+    → Emitted rows (words_of item ++ words)
+emitted_item rows item words fresh fine written (emitted_line items ending is all runs) =
+    emitted_line (item ∷ items) ending (ap (λ ws. words_of item ++ ws) is ∙ sym
     (append_assoc (words_of item) (flat_map words_of items) (words_of_ending ending)))
     (All-cons IsWritten item items written all) (fresh, fine, runs)
-told_item rows item words fresh fine written (told_help items word rest is all help runs) =
-    told_help (item ∷ items) word rest (ap (λ ws. words_of item ++ ws) is ∙ sym
+emitted_item rows item words fresh fine written (emitted_help items word rest is all help runs) =
+    emitted_help (item ∷ items) word rest (ap (λ ws. words_of item ++ ws) is ∙ sym
     (append_assoc (words_of item) (flat_map words_of items) (word ∷ rest)))
     (All-cons IsWritten item items written all) help (fresh, fine, runs)
 
 -- what is held is used well, and the words go on; or clap refuses them
 pub data Verdict (rows : List Row) (p : Option Item) (words : List Text) (fault : Kinds) : Type 0 where
-  allowed : Runs rows (listed p) → Told (pended rows p) words → Verdict rows p words fault
+  allowed : Runs rows (listed p) → Emitted (pended rows p) words → Verdict rows p words fault
   forbidden : IsRefusal fault → Verdict rows p words fault
 
 -- the same where the option waits for its value
 pub data Waited (option : Valued) (rows : List Row) (words : List Text) (fault : Kinds) : Type 0 where
-  given_value : Told rows (valued_word option ∷ words) → Waited option rows words fault
+  given_value : Emitted rows (valued_word option ∷ words) → Waited option rows words fault
   no_value : IsRefusal fault → Waited option rows words fault
 
 pub record Verdicts (words : List Text) : Type 0 where
@@ -65,7 +65,7 @@ pub record Verdicts (words : List Text) : Type 0 where
 
 verdict_as : (rows : List Row) (p : Option Item) (words : List Text) (fault same : Kinds) → fault ≡ same
     → Verdict rows p words same → Verdict rows p words fault
-verdict_as rows p words fault same e (allowed runs told) = allowed runs told
+verdict_as rows p words fault same e (allowed runs emitted) = allowed runs emitted
 verdict_as rows p words fault same e (forbidden refused) = forbidden (refusal_as fault same e refused)
 
 unknown : (fault : Kinds) → fault ≡ UnknownArgument ∷ [] → IsRefusal fault
@@ -81,7 +81,7 @@ name_verdict rows p name [] runs = go (settles (pended rows p) (Some (file name)
     go : Settles (pended rows p) (Some (file name))
         → Verdict rows p (two_hyphens ∷ name ∷ [])
         (fault_over (trail_at idle (held_with (pended rows p) (Some (file name))) 2) [])
-    go (settles_well later) = allowed runs (told_line [] (named name) refl (All-nil IsWritten) later)
+    go (settles_well later) = allowed runs (emitted_line [] (named name) refl (All-nil IsWritten) later)
     go (settles_badly bad) = forbidden (refusal_as _ _
         (fault_end (trail_at idle (held_with (pended rows p) (Some (file name))) 2)) bad)
 name_verdict rows p name (word ∷ rest) runs =
@@ -93,7 +93,7 @@ trail_verdict : (rows : List Row) (p : Option Item) (rest : List Text)
 trail_verdict rows p [] = go (settles rows p)
   where
     go : Settles rows p → Verdict rows p (two_hyphens ∷ []) (fault_over (trails idle rows p) [])
-    go (settles_well runs) = allowed runs (told_line [] dashes refl (All-nil IsWritten) tt)
+    go (settles_well runs) = allowed runs (emitted_line [] dashes refl (All-nil IsWritten) tt)
     go (settles_badly bad) = forbidden (refusal_as _ _ (fault_end (trails idle rows p)) bad)
 trail_verdict rows p (name ∷ rest) = go (has_row file_id (pended rows p)) refl (settles rows p)
   where
@@ -120,24 +120,24 @@ module _ (rows : List Row) (p : Option Item) (word : Text) (rest : List Text) wh
   -- an item of one word, once it is taken
   item_here : (item : Item) → word ∷ [] ≡ words_of item → Runs rows (listed p)
       → has_row (id_in item) (pended rows p) ≡ false → value_fault item ≡ [] → IsWritten item
-      → Leads (stands rows p) (word ∷ []) (stands_behind (pended rows p) item) → Verdicts rest → Here
+      → Leads (stands rows p) (word ∷ []) (stands_after (pended rows p) item) → Verdicts rest → Here
   item_here item is runs fresh fine written leads later =
       verdict_as rows p (word ∷ rest) _ _ (leads.fault rest)
       (go (later.at_rest (kept (pended rows p) item) (carried item)))
     where
       go : Verdict (kept (pended rows p) item) (carried item) rest
-          (fault_over (stands_behind (pended rows p) item) rest)
-          → Verdict rows p (word ∷ rest) (fault_over (stands_behind (pended rows p) item) rest)
-      go (allowed _ told) = allowed runs (subst (λ ws. Told (pended rows p) (ws ++ rest)) (sym is)
-          (told_item (pended rows p) item rest fresh fine written
-          (subst (λ rs. Told rs rest) (kept_pended (pended rows p) item) told)))
+          (fault_over (stands_after (pended rows p) item) rest)
+          → Verdict rows p (word ∷ rest) (fault_over (stands_after (pended rows p) item) rest)
+      go (allowed _ emitted) = allowed runs (subst (λ ws. Emitted (pended rows p) (ws ++ rest)) (sym is)
+          (emitted_item (pended rows p) item rest fresh fine written
+          (subst (λ rs. Emitted rs rest) (kept_pended (pended rows p) item) emitted)))
       go (forbidden refused) = forbidden refused
 
   -- an item that is used at once
   once_here : (item : Item) → word ∷ [] ≡ words_of item → IsWritten item
       → turn (stands rows p) word ≡ or_else (settling rows p) (item_fault (settled_rows shape.rules (pend p) rows) item)
       → (Runs rows (listed p) → has_row (id_in item) (pended rows p) ≡ false → value_fault item ≡ []
-      → Leads (stands rows p) (word ∷ []) (stands_behind (pended rows p) item)) → Verdicts rest → Here
+      → Leads (stands rows p) (word ∷ []) (stands_after (pended rows p) item)) → Verdicts rest → Here
   once_here item is written now leads later = go (settles rows p)
     where
       taking : Runs rows (listed p) → Takes (pended rows p) item → Here
@@ -167,7 +167,7 @@ module _ (rows : List Row) (p : Option Item) (word : Text) (rest : List Text) wh
   help_here help = go (settles rows p)
     where
       go : Settles rows p → Here
-      go (settles_well runs) = allowed runs (told_help [] word rest refl (All-nil IsWritten) help tt)
+      go (settles_well runs) = allowed runs (emitted_help [] word rest refl (All-nil IsWritten) help tt)
       go (settles_badly bad) = refused_here (refusal_as _ _ (help_turn idle rows (pend p) (place rows p) word help)
           (first_refuses (settling rows p) _ bad))
 
@@ -177,7 +177,7 @@ wants_here rows p option rest later = go (settles rows p)
   where
     waited : Runs rows (listed p) → Waited option (pended rows p) rest (fault_over (waits option (pended rows p)) rest)
         → Here rows p (valued_word option) rest
-    waited runs (given_value told) = allowed runs told
+    waited runs (given_value emitted) = allowed runs emitted
     waited runs (no_value refused) = forbidden (refusal_as _ _ ((wants_leads rows p runs option).fault rest) refused)
 
     go : Settles rows p → Here rows p (valued_word option) rest
@@ -256,7 +256,7 @@ module _ (option : Valued) (rows : List Row) where
       where
         go : Verdict rows (Some (apart option word)) rest (fault_over (stands rows (Some (apart option word))) rest)
             → There
-        go (allowed runs told) = given_value (told_item rows (apart option word) rest runs.0 runs.1 plain told)
+        go (allowed runs emitted) = given_value (emitted_item rows (apart option word) rest runs.0 runs.1 plain emitted)
         go (forbidden refused) = no_value (refusal_as _ _ ((value_leads option word rows plain).fault rest) refused)
 
 wait_verdict : (option : Valued) (rows : List Row) (word : Text) (rest : List Text) → Verdicts rest → Sort word
@@ -304,7 +304,7 @@ verdicts [] texts = record {
 }
   where
     ended : (rows : List Row) (p : Option Item) → Settles rows p → Verdict rows p [] (fault_over (stands rows p) [])
-    ended rows p (settles_well runs) = allowed runs (told_line [] bare refl (All-nil IsWritten) tt)
+    ended rows p (settles_well runs) = allowed runs (emitted_line [] bare refl (All-nil IsWritten) tt)
     ended rows p (settles_badly bad) = forbidden (refusal_as _ _ (fault_end (stands rows p)) bad)
 verdicts (word ∷ rest) texts =
     let later = verdicts rest texts.1 in

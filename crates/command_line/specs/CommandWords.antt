@@ -2,8 +2,8 @@
 --
 --   html2text [--width N] [--rich] [--no-decorate] [--footnotes] [--shared-footnotes] [--references FILE]
 --       [--max-bytes N] [--] [FILE]
-use Rattle.std.specs.Prelude.{◌≡◌, ℕ, ◌+◌, ◌^◌, ◌<◌, zero, suc, Bool, true, false, not, pos, All, List, []}
-use Rattle.std.specs.Prelude.{◌∷◌, ◌++◌, ◌⊎◌, flat_map, Option, Some, None, ⊤, codes, slice_get}
+use Rattle.std.specs.Prelude.{◌≡◌, ◌+◌, ◌^◌, ◌<◌, [], ◌∷◌, ◌++◌, ◌⊎◌, ⊤, All, Bool, List, None, Option, Some, codes}
+use Rattle.std.specs.Prelude.{false, flat_map, not, pos, slice_get, suc, true, zero, ℕ}
 use Rattle.std.specs.Str.{chars}
 use Rattle.std.specs.Str.Parse.{IsNumeral, signed_digits_value, starts_with_minus, without_leading_sign}
 
@@ -97,13 +97,13 @@ file_in (joined option value) = []
 file_in (flag option) = []
 file_in (file name) = name ∷ []
 
-abbrev pub file_behind : Ending → List (List ℕ)
-file_behind bare = []
-file_behind dashes = []
-file_behind (named name) = name ∷ []
+abbrev pub file_after : Ending → List (List ℕ)
+file_after bare = []
+file_after dashes = []
+file_after (named name) = name ∷ []
 
 abbrev pub files_in : List Item → Ending → List (List ℕ)
-files_in items ending = flat_map file_in items ++ file_behind ending
+files_in items ending = flat_map file_in items ++ file_after ending
 
 -- a value says a number: it is decimal digits, after a sign or none, of a number from 0 to the most in 32 bits (`+8`
 -- says 8, and `-0` says 0)
@@ -181,6 +181,6 @@ pub record AsksHelp (words : List (List ℕ)) : Type 0 where
   pub helps : IsHelpWord word
 
 -- the words of a command line without the first, the program's name
-abbrev pub words_behind_name : List (List ℕ) → List (List ℕ)
-words_behind_name [] = []
-words_behind_name (name ∷ words) = words
+abbrev pub words_after_name : List (List ℕ) → List (List ℕ)
+words_after_name [] = []
+words_after_name (name ∷ words) = words

@@ -6,7 +6,7 @@ use Rattle.clap.specs.declared.error.kind.ErrorKind.{ErrorKind}
 use Rattle.clap.specs.declared.error.kind.ErrorKind.TheVariants as kinds
 use Rattle.std.specs.declared.io.ErrorKind.{ErrorKind as IoKind}
 use Rattle.std.specs.declared.io.ErrorKind.TheVariants as io_kinds
-use Rattle.command_line.specs.CommandWords.{Asked, Asks, AsksHelp, words_behind_name}
+use Rattle.command_line.specs.CommandWords.{Asked, Asks, AsksHelp, words_after_name}
 use Rattle.command_line.specs.declared.words.WordFault.{WordFault}
 use Rattle.command_line.specs.declared.words.WordFault.TheVariants as faults
 
@@ -44,5 +44,5 @@ IsFaultOf kind faults.Memory = ⊤
 
 -- why the words of a command line, the program's name first, are refused
 abbrev pub IsRefusedWith : {A B : Type 0} → Result (Vec (String A) B) IoFault → WordFault → Type 0
-IsRefusedWith (Ok words) fault = Explains (words_behind_name (map string_bytes words.items)) fault × (IsHelp fault → ⊥)
+IsRefusedWith (Ok words) fault = Explains (words_after_name (map string_bytes words.items)) fault × (IsHelp fault → ⊥)
 IsRefusedWith (Err error) fault = fault ≡ fault_of_kind (error_kind error)

@@ -2,8 +2,7 @@
 
 ghost use Rattle.std.specs.Prelude.{◌≡◌, false, IfOk};
 ghost use Rattle.clap.specs.Words.{app_of, rule_of};
-ghost use Rattle.command_line.specs.CommandRules.{file_rule, flag_rule, number_rule, program};
-ghost use Rattle.command_line.specs.CommandRules.{text_rule, without_rules};
+ghost use Rattle.command_line.specs.CommandRules.{file_rule, flag_rule, number_rule, program, text_rule, without_rules};
 
 use clap::{Arg, ArgAction, Command, value_parser};
 use std::alloc::{AllocError, Global};

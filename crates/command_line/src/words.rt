@@ -4,8 +4,8 @@ ghost use Rattle.std.specs.Prelude.{◌≡◌, Err, IfErr, IfOk, IsErrAnd, map, 
 ghost use Rattle.std.specs.IoError.{error_kind};
 ghost use Rattle.clap.specs.Words.{found_of, kind_of};
 ghost use Rattle.clap.specs.Matches.{first_value, one_text};
-ghost use Rattle.command_line.specs.CommandWords.{Asked, Asks, AsksHelp, words_behind_name};
-ghost use Rattle.command_line.specs.FoundWords.{IsFound, TellsNumber};
+ghost use Rattle.command_line.specs.CommandWords.{Asked, Asks, AsksHelp, words_after_name};
+ghost use Rattle.command_line.specs.FoundWords.{IsFound, EmitsNumber};
 ghost use Rattle.command_line.specs.Requests.{asked_of};
 ghost use Rattle.command_line.specs.WordFaults.{Explains, IsFaultOf, IsHelpOrMemory, fault_of_kind};
 ghost use Rattle.command_line.specs.declared.words.WordFault.TheVariants as faults;
@@ -102,18 +102,18 @@ pub fn read_words(alloc: Global, words: &[String]) -> Result<Request, WordFault>
 /// allocation fails, or because one is not UTF-8.
 pub fn request_of(alloc: Global, words: io::Result<Vec<String>>) -> Result<Request, WordFault>
     ensures asked { IfOk result (λ request. IfOk words
-        (λ all. Asks (words_behind_name (map string_bytes all.items)) (asked_of request))) }
-    ensures explained { IfOk words (λ all. IfErr result (Explains (words_behind_name (map string_bytes all.items)))) }
-    ensures answered { IfOk words (λ all. (asked : Asked) → Asks (words_behind_name (map string_bytes all.items)) asked
+        (λ all. Asks (words_after_name (map string_bytes all.items)) (asked_of request))) }
+    ensures explained { IfOk words (λ all. IfErr result (Explains (words_after_name (map string_bytes all.items)))) }
+    ensures answered { IfOk words (λ all. (asked : Asked) → Asks (words_after_name (map string_bytes all.items)) asked
         → IfErr result (λ fault. fault ≡ faults.Memory)) }
-    ensures helped { IfOk words (λ all. AsksHelp (words_behind_name (map string_bytes all.items))
+    ensures helped { IfOk words (λ all. AsksHelp (words_after_name (map string_bytes all.items))
         → IsErrAnd result IsHelpOrMemory) }
     ensures unread { IfErr words (λ error. result ≡ Err (fault_of_kind (error_kind error))) }
 {
     match words {
         Ok(words) => match words.as_slice() {
             [] => read_words(alloc, &[]),
-            [_name, behind @ ..] => read_words(alloc, behind),
+            [_name, trailing @ ..] => read_words(alloc, trailing),
         },
         Err(error) => match error.kind() {
             io::ErrorKind::OutOfMemory => Err(WordFault::Memory),
@@ -139,7 +139,7 @@ fn request_in(alloc: Global, matches: &ArgMatches) -> Result<Request, AllocError
 }
 
 fn number_in(matches: &ArgMatches, name: &str) -> Option<usize>
-    ensures { TellsNumber (one_text (found_of matches.now) name.now) result }
+    ensures { EmitsNumber (one_text (found_of matches.now) name.now) result }
 {
     match matches.get_one::<u32>(name) {
         Some(number) => Some(number as usize),

@@ -1,6 +1,6 @@
 -- An end tag of formatting, where the element that it names is the current node.
-use Rattle.std.proofs.Common.{◌≡◌, ℕ, ◌&&◌, inl, inr, not, Bool, true, false, List, [], ◌∷◌}
-use Rattle.std.proofs.Common.{bytes_eq, if◌then◌else◌, refl, ap, ◌∙◌}
+use Rattle.std.proofs.Common.{◌≡◌, ◌&&◌, [], ◌∷◌, if◌then◌else◌, ◌∙◌, Bool, List, ap, bytes_eq, false, inl, inr, not}
+use Rattle.std.proofs.Common.{refl, true, ℕ}
 use Rattle.tree_formatting.specs.Entries.{Entry, formatted, is_listed}
 use Rattle.tree_forest.specs.Forest.{Forest, name_of}
 use Rattle.html_lexemes.specs.declared.token.Tag.{Tag}

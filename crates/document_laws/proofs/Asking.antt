@@ -1,6 +1,6 @@
 -- Along a document the tokenizer is asked to read the text of its title as such, and for nothing else.
-use Rattle.std.proofs.Common.{◌≡◌, ℕ, ◌||◌, ◌&&◌, Bool, true, false, List, [], ◌∷◌, Option, None, Some, codes}
-use Rattle.std.proofs.Common.{if◌then◌else◌, refl, sym, ap, subst, ◌∙◌}
+use Rattle.std.proofs.Common.{◌≡◌, ◌||◌, ◌&&◌, [], ◌∷◌, if◌then◌else◌, ◌∙◌, Bool, List, None, Option, Some, ap, codes}
+use Rattle.std.proofs.Common.{false, refl, subst, sym, true, ℕ}
 use Rattle.std.proofs.lemmas.Option.{none-some, option_and_then_some}
 use Rattle.std.specs.Option.{option_map}
 use Rattle.tree_forest.specs.Forest.{page_alone}
@@ -16,8 +16,8 @@ use Rattle.rules_table.specs.Settling.{Settled, given_by, settle, step, taken, t
 use Rattle.rules_table.specs.State.{Ask, State, encoding, nothing, plaintext, raw, script, start}
 use Rattle.tree_predicates.specs.declared.modes.InsertionMode.TheVariants as modes
 use Rattle.document_laws.specs.Asked.{AreAsked, DocumentsAsk, IsAsked, asked_by, opens_title}
-use Rattle.document_laws.specs.Contents.{Content, Inline, IsBlocks, IsInline, IsInlines, end_of, ended, marks}
-use Rattle.document_laws.specs.Contents.{start_of, texts_of_blocks, tokens_and}
+use Rattle.document_laws.specs.Contents.{Content, Inline, IsBlocks, IsInline, IsInlines, end_of, ended, marks, start_of}
+use Rattle.document_laws.specs.Contents.{texts_of_blocks, tokens_and}
 use Rattle.document_laws.specs.Contents as kinds
 use Rattle.document_laws.specs.Rebuilt.{document_tokens, head_alone, html_doctype, text_tokens, title_tokens}
 use Rattle.document_laws.proofs.Documents.{documents_run}
@@ -103,11 +103,11 @@ inline_name kinds.mark linked name attributes kids h =
     ) h.0
 inline_name kinds.link linked name attributes kids h = ap (is_one_of (codes "title" ∷ [])) h.0
 
-inlines_none : (linked behind : Bool) (content : Content) → IsInlines linked behind content → (more : List Item) →
+inlines_none : (linked trailing : Bool) (content : Content) → IsInlines linked trailing content → (more : List Item) →
     NoTitles more → NoTitles (tokens_and content more)
-inlines_none linked behind _ (kinds.nothing _ _) more h = h
-inlines_none linked behind _ (kinds.text _ c cs rest is) more h = (tt, inlines_none linked true rest is more h)
-inlines_none linked behind _ (kinds.inline _ _ kind name attributes kids rest is inner further) more h = (
+inlines_none linked trailing _ (kinds.nothing _ _) more h = h
+inlines_none linked trailing _ (kinds.text _ c cs rest is) more h = (tt, inlines_none linked true rest is more h)
+inlines_none linked trailing _ (kinds.inline _ _ kind name attributes kids rest is inner further) more h = (
   inline_name kind linked name attributes kids is,
   inlines_none _ false kids inner (ended name (tokens_and rest more))
       (ended_none name (tokens_and rest more) (is_one_of (codes "br" ∷ []) name)

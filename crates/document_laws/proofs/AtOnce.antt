@@ -3,10 +3,9 @@ use Rattle.std.proofs.Common.{◌≡◌, ℕ, ◌+◌, ◌<◌, suc, List, [], �
 use Rattle.std.proofs.lemmas.List.{append-nil, append_assoc, length-append}
 use Rattle.tree_forest.specs.Changes.{changed, with_more}
 use Rattle.tree_forest.specs.Forest.{Forest, Node, nodes, text}
-use Rattle.tree_forest.specs.Places.{behind}
+use Rattle.tree_forest.specs.Places.{trailing}
 use Rattle.document_laws.specs.Contents.{Content, none, say, span}
-use Rattle.document_laws.specs.Planted.{listed, node_of_element, planted, roots, size, standing, with_new}
-use Rattle.document_laws.specs.Planted.{with_text}
+use Rattle.document_laws.specs.Planted.{listed, node_of_element, planted, roots, size, standing, with_new, with_text}
 use Rattle.document_laws.proofs.Growing.{changed_before, changed_last, changed_none, changed_twice, length_changed}
 use Rattle.document_laws.proofs.Growing.{length_grown}
 
@@ -24,15 +23,15 @@ length_listed n (span name attributes kids rest) =
 
 -- a node below another, and then what follows it
 below_then : (p n : ℕ) (more : List ℕ) (f later : Forest) (x : Node) → p < length f →
-    changed p (with_more more) (changed p (behind n) (f ++ x ∷ [])) ++ later
+    changed p (with_more more) (changed p (trailing n) (f ++ x ∷ [])) ++ later
     ≡ changed p (with_more (n ∷ more)) f ++ x ∷ later
 below_then p n more f later x held =
-    let first : changed p (behind n) (f ++ x ∷ []) ≡ changed p (behind n) f ++ x ∷ []
-    = changed_before p (behind n) f (x ∷ []) held in
-    let second : changed p (with_more more) (changed p (behind n) f ++ x ∷ [])
-    ≡ changed p (with_more more) (changed p (behind n) f) ++ x ∷ []
-    = changed_before p (with_more more) (changed p (behind n) f) (x ∷ [])
-    (subst (λ k. p < k) (sym (length_changed p (behind n) f)) held) in
+    let first : changed p (trailing n) (f ++ x ∷ []) ≡ changed p (trailing n) f ++ x ∷ []
+    = changed_before p (trailing n) f (x ∷ []) held in
+    let second : changed p (with_more more) (changed p (trailing n) f ++ x ∷ [])
+    ≡ changed p (with_more more) (changed p (trailing n) f) ++ x ∷ []
+    = changed_before p (with_more more) (changed p (trailing n) f) (x ∷ [])
+    (subst (λ k. p < k) (sym (length_changed p (trailing n) f)) held) in
     ap (λ k. changed p (with_more more) k ++ later) first
     ∙ ap (λ k. k ++ later) (second ∙ ap (λ k. k ++ x ∷ []) (changed_twice p n more f))
     ∙ append_assoc (changed p (with_more (n ∷ more)) f) (x ∷ []) later
@@ -45,10 +44,10 @@ last_held x y e = omega (arith, e)
 
 -- what follows an element and its kids
 rest_stands : (p n : ℕ) (more : List ℕ) (f first later : Forest) (x : Node) → p < length f →
-    changed p (with_more more) (changed p (behind n) (f ++ x ∷ []) ++ first) ++ later
+    changed p (with_more more) (changed p (trailing n) (f ++ x ∷ []) ++ first) ++ later
     ≡ changed p (with_more (n ∷ more)) f ++ x ∷ (first ++ later)
 rest_stands p n more f first later x held =
-    let g = changed p (behind n) (f ++ x ∷ []) in
+    let g = changed p (trailing n) (f ++ x ∷ []) in
     let apart : changed p (with_more more) (g ++ first) ≡ changed p (with_more more) g ++ first
     = changed_before p (with_more more) g first (above p (length f) (length g) held (length_grown p n f x)) in
     ap (λ k. k ++ later) apart ∙ append_assoc (changed p (with_more more) g) first later
@@ -76,14 +75,14 @@ planted_stands (span name attributes kids rest) p f held =
     let g = with_new p name attributes f in
     let first = listed (suc n) kids in
     let size_is : nodes g ≡ suc n = length_grown p n f x in
-    let inner : planted n kids g ≡ changed p (behind n) (f ++ y ∷ []) ++ first
+    let inner : planted n kids g ≡ changed p (trailing n) (f ++ y ∷ []) ++ first
     = planted_stands kids n g (last_held n (nodes g) size_is)
     ∙ ap (λ k. changed n (with_more (roots k kids)) g ++ listed k kids) size_is
     ∙ ap (λ k. k ++ first) (changed_last p (with_more (roots (suc n) kids)) f x held) in
-    let h = changed p (behind n) (f ++ y ∷ []) ++ first in
+    let h = changed p (trailing n) (f ++ y ∷ []) ++ first in
     let size_then : nodes h ≡ suc n + size kids
-    = length_with_kids (nodes h) n (length (changed p (behind n) (f ++ y ∷ []))) (length first) (size kids)
-    (length-append (changed p (behind n) (f ++ y ∷ [])) first) (length_grown p n f y)
+    = length_with_kids (nodes h) n (length (changed p (trailing n) (f ++ y ∷ []))) (length first) (size kids)
+    (length-append (changed p (trailing n) (f ++ y ∷ [])) first) (length_grown p n f y)
     (length_listed (suc n) kids) in
     let larger : p < nodes h = inside p n (size kids) (nodes h) held size_then in
     ap (λ k. planted p rest k) inner

@@ -1,6 +1,6 @@
 -- The basic table knows the references of escaped text.
-use Rattle.std.proofs.Common.{◌≡◌, ℕ, Bool, ◌==◌, true, false, cond, List, [], ◌∷◌, ◌++◌, codes, reverse, None, Some}
-use Rattle.std.proofs.Common.{Ordering, if◌then◌else◌, refl, sym, ap, ◌∙◌}
+use Rattle.std.proofs.Common.{◌≡◌, ◌==◌, [], ◌∷◌, ◌++◌, if◌then◌else◌, ◌∙◌, Bool, List, None, Ordering, Some, ap, codes}
+use Rattle.std.proofs.Common.{cond, false, refl, reverse, sym, true, ℕ}
 use Rattle.std.specs.Cmp.Lexicographic.{nat_list_cmp_total, slice_cmp}
 use Rattle.std.specs.FinMap as finite
 use Rattle.std.specs.Ordering.{is_eq, nat_cmp}
@@ -18,11 +18,11 @@ either : (b later : Bool) → later ≡ true → (if b then true else later) ≡
 either true later h = refl
 either false later h = h
 
-pub goes_on_behind : (front : List ℕ) (c : ℕ) (more : List ℕ) → goes_on (front ++ 59 ∷ c ∷ more) ≡ true
-goes_on_behind [] c more = refl
-goes_on_behind (x ∷ []) c more = either (x == 59) true refl
-goes_on_behind (x ∷ y ∷ front) c more =
-    either (x == 59) (goes_on (y ∷ (front ++ 59 ∷ c ∷ more))) (goes_on_behind (y ∷ front) c more)
+pub goes_on_after : (front : List ℕ) (c : ℕ) (more : List ℕ) → goes_on (front ++ 59 ∷ c ∷ more) ≡ true
+goes_on_after [] c more = refl
+goes_on_after (x ∷ []) c more = either (x == 59) true refl
+goes_on_after (x ∷ y ∷ front) c more =
+    either (x == 59) (goes_on (y ∷ (front ++ 59 ∷ c ∷ more))) (goes_on_after (y ∷ front) c more)
 
 equal : (r : Ordering) → is_eq r ≡ true → r ≡ Equal
 equal Less e = cc
@@ -66,6 +66,6 @@ basic_knows = record {
   space = finite.get-from_entries nat_list_cmp_total (reverse basic_references) (codes "nbsp;");
   ends = λ front c more.
       finite.get-from_entries nat_list_cmp_total (reverse basic_references) (front ++ 59 ∷ c ∷ more)
-      ∙ none_found (front ++ 59 ∷ c ∷ more) (reverse basic_references) (goes_on_behind front c more)
+      ∙ none_found (front ++ 59 ∷ c ∷ more) (reverse basic_references) (goes_on_after front c more)
       (refl, (refl, (refl, (refl, (refl, tt)))));
 }

@@ -1,6 +1,5 @@
 -- Where only blocks are open and nothing is listed: what tags of blocks do.
-use Rattle.std.proofs.Common.{◌≡◌, ℕ, ◌<◌, Bool, true, false, List, [], ◌∷◌, Some, codes}
-use Rattle.std.proofs.Common.{if◌then◌else◌, refl, ap, ◌∙◌}
+use Rattle.std.proofs.Common.{◌≡◌, ◌<◌, [], ◌∷◌, if◌then◌else◌, ◌∙◌, Bool, List, Some, ap, codes, false, refl, true, ℕ}
 use Rattle.tree_forest.specs.Forest.{Forest, name_of, nodes}
 use Rattle.html_lexemes.specs.declared.names.Attribute.{Attribute}
 use Rattle.html_lexemes.specs.declared.names.QualName.{QualName}
@@ -14,8 +13,8 @@ use Rattle.tree_names.specs.ElementSets.{button_scope_barriers, headings, list_i
 use Rattle.tree_names.specs.Sets.{Elements, is_element_of, is_html}
 use Rattle.tree_names.specs.Wanted.{is_implied, one}
 use Rattle.tree_names.specs.Groups.{tag_group}
-use Rattle.rules_table.specs.Actions.{act, at_place, close_item, close_p, imply_but, insert, pop_if, pop_to}
-use Rattle.rules_table.specs.Actions.{popped_if, refuse_frameset}
+use Rattle.rules_table.specs.Actions.{act, at_place, close_item, close_p, imply_but, insert, pop_if, pop_to, popped_if}
+use Rattle.rules_table.specs.Actions.{refuse_frameset}
 use Rattle.rules_table.specs.InBody.{in_body_start}
 use Rattle.rules_table.specs.InBodyBlocks.{block_start, heading_start, list_item_start}
 use Rattle.rules_table.specs.InBodyBlocks as blocks

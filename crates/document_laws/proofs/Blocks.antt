@@ -1,6 +1,5 @@
 -- Blocks rebuild: nothing is listed before and after them, and below the current node what was planted stands.
-use Rattle.std.proofs.Common.{◌≡◌, ℕ, ◌<◌, Bool, true, false, List, [], ◌∷◌, codes, if◌then◌else◌, Some}
-use Rattle.std.proofs.Common.{refl, ap, ◌∙◌}
+use Rattle.std.proofs.Common.{◌≡◌, ◌<◌, [], ◌∷◌, if◌then◌else◌, ◌∙◌, Bool, List, Some, ap, codes, false, refl, true, ℕ}
 use Rattle.tree_forest.specs.Forest.{Forest, name_of, nodes}
 use Rattle.token_grammar.specs.Items.{Item}
 use Rattle.html_lexemes.specs.declared.names.Attribute.{Attribute}
@@ -8,18 +7,15 @@ use Rattle.html_tree_state.specs.Scopes.{is_item_barrier}
 use Rattle.tree_names.specs.Sets.{is_element_of, is_one_of}
 use Rattle.tree_names.specs.Wanted.{one}
 use Rattle.rules_table.specs.State.{State}
-use Rattle.document_laws.specs.Contents.{Content, IsBlocks, bullets, division, end_of, item, no_more, numbers}
-use Rattle.document_laws.specs.Contents.{of_text, quote}
-use Rattle.document_laws.specs.Contents.{span, start_of, tokens_and}
+use Rattle.document_laws.specs.Contents.{Content, IsBlocks, bullets, division, end_of, item, no_more, numbers, of_text}
+use Rattle.document_laws.specs.Contents.{quote, span, start_of, tokens_and}
 use Rattle.document_laws.specs.Planted.{of_html, planted, with_new}
-use Rattle.document_laws.proofs.BlockNames.{Closes, IsBlockName, IsOuterName, div_block, li_closes, li_opens}
-use Rattle.document_laws.proofs.BlockNames.{ol_block, outer_quote, quote_block}
-use Rattle.document_laws.proofs.BlockNames.{ol_list, outer, outer_div, outer_li, outer_ol, outer_ul, text_block}
-use Rattle.document_laws.proofs.BlockNames.{ul_block, ul_list}
+use Rattle.document_laws.proofs.BlockNames.{Closes, IsBlockName, IsOuterName, div_block, li_closes, li_opens, ol_block}
+use Rattle.document_laws.proofs.BlockNames.{ol_list, outer, outer_div, outer_li, outer_ol, outer_quote, outer_ul}
+use Rattle.document_laws.proofs.BlockNames.{quote_block, text_block, ul_block, ul_list}
 use Rattle.document_laws.proofs.BlockSteps.{AreOuter, IsList, IsOuter}
 use Rattle.document_laws.proofs.Inlines.{Comes, Stands, inlines_come}
-use Rattle.document_laws.proofs.Planting.{Keeps, element_kind, grown_keeps, in_element, keeps_on, last_held}
-use Rattle.document_laws.proofs.Planting.{name_kept}
+use Rattle.document_laws.proofs.Planting.{Keeps, element_kind, grown_keeps, in_element, keeps_on, last_held, name_kept}
 use Rattle.document_laws.proofs.Planting.{new_name, planted_keeps, size_grown, still_held}
 use Rattle.document_laws.proofs.Standing.{if_false, now, runs, runs_on, stepped}
 use Rattle.document_laws.proofs.Sublists.{AllUnder, sub_nothing}

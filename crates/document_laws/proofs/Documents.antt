@@ -60,11 +60,11 @@ pub documents_run : (s : State) (title : Option (List ℕ)) (content : Content) 
     ≡ Some (document_tree title content)
 documents_run s title content is alone keeps_doctype blocks =
     let more = tokens_and content (end_of (codes "body") ∷ end_of (codes "html") ∷ end_of_file ∷ []) in
-    let behind_title = end_of (codes "head") ∷ start_of (codes "body") [] ∷ more in
+    let after_title = end_of (codes "head") ∷ start_of (codes "body") [] ∷ more in
     let f = with_title title head_alone in
     let keeps = title_keeps title in
-    let first = beginning_reaches s (title_tokens title behind_title) is alone keeps_doctype in
-    let second = title_reaches first.at title behind_title in
+    let first = beginning_reaches s (title_tokens title after_title) is alone keeps_doctype in
+    let second = title_reaches first.at title after_title in
     let z = second.at in
     ap (option_map (λ (z : State). z.tree.forest))
     (first.come

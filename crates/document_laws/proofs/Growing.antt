@@ -1,10 +1,9 @@
 -- A node more below another, and changes of one node.
-use Rattle.std.proofs.Common.{◌≡◌, ℕ, ◌<◌, zero, suc, List, [], ◌∷◌, ◌++◌, length}
-use Rattle.std.proofs.Common.{refl, sym, ap, ◌∙◌, arith}
+use Rattle.std.proofs.Common.{◌≡◌, ◌<◌, [], ◌∷◌, ◌++◌, ◌∙◌, List, ap, arith, length, refl, suc, sym, zero, ℕ}
 use Rattle.std.proofs.lemmas.List.{append-nil, append_assoc}
 use Rattle.tree_forest.specs.Changes.{changed, with_more}
 use Rattle.tree_forest.specs.Forest.{Forest, Node, kind_at, node_at}
-use Rattle.tree_forest.specs.Places.{behind}
+use Rattle.tree_forest.specs.Places.{trailing}
 
 pub changed_before : (p : ℕ) (h : Node → Node) (f g : Forest) → p < length f →
     changed p h (f ++ g) ≡ changed p h f ++ g
@@ -27,12 +26,12 @@ length_one_more [] y = refl
 length_one_more (x ∷ f) y = ap suc (length_one_more f y)
 
 -- children more twice are children more once
-with_both : (n : ℕ) (more : List ℕ) (x : Node) → with_more more (behind n x) ≡ with_more (n ∷ more) x
+with_both : (n : ℕ) (more : List ℕ) (x : Node) → with_more more (trailing n x) ≡ with_more (n ∷ more) x
 with_both n more x =
     ap (λ cs. let y : Node = record { kind = x.kind; children = cs } in y) (append_assoc x.children (n ∷ []) more)
 
 pub changed_twice : (p n : ℕ) (more : List ℕ) (f : Forest) →
-    changed p (with_more more) (changed p (behind n) f) ≡ changed p (with_more (n ∷ more)) f
+    changed p (with_more more) (changed p (trailing n) f) ≡ changed p (with_more (n ∷ more)) f
 changed_twice p n more [] = refl
 changed_twice zero n more (x ∷ f) = ap (λ y. y ∷ f) (with_both n more x)
 changed_twice (suc p) n more (x ∷ f) = ap (λ k. x ∷ k) (changed_twice p n more f)
@@ -46,18 +45,18 @@ changed_none zero (x ∷ f) = ap (λ y. y ∷ f) (with_none x)
 changed_none (suc p) (x ∷ f) = ap (λ k. x ∷ k) (changed_none p f)
 
 -- one node more below another: how many there are, and a change of the new one
-pub length_grown : (p n : ℕ) (f : Forest) (x : Node) → length (changed p (behind n) (f ++ x ∷ [])) ≡ suc (length f)
-length_grown p n f x = length_changed p (behind n) (f ++ x ∷ []) ∙ length_one_more f x
+pub length_grown : (p n : ℕ) (f : Forest) (x : Node) → length (changed p (trailing n) (f ++ x ∷ [])) ≡ suc (length f)
+length_grown p n f x = length_changed p (trailing n) (f ++ x ∷ []) ∙ length_one_more f x
 
 pub changed_last : (p : ℕ) (h : Node → Node) (f : Forest) (x : Node) → p < length f →
-    changed (length f) h (changed p (behind (length f)) (f ++ x ∷ []))
-    ≡ changed p (behind (length f)) (f ++ h x ∷ [])
+    changed (length f) h (changed p (trailing (length f)) (f ++ x ∷ []))
+    ≡ changed p (trailing (length f)) (f ++ h x ∷ [])
 changed_last p h f x held =
     let n = length f in
-    let g = changed p (behind n) f in
-    let before : changed p (behind n) (f ++ x ∷ []) ≡ g ++ x ∷ [] = changed_before p (behind n) f (x ∷ []) held in
-    let after : changed p (behind n) (f ++ h x ∷ []) ≡ g ++ h x ∷ [] = changed_before p (behind n) f (h x ∷ []) held in
-    let at : n ≡ length g = sym (length_changed p (behind n) f) in
+    let g = changed p (trailing n) f in
+    let before : changed p (trailing n) (f ++ x ∷ []) ≡ g ++ x ∷ [] = changed_before p (trailing n) f (x ∷ []) held in
+    let after : changed p (trailing n) (f ++ h x ∷ []) ≡ g ++ h x ∷ [] = changed_before p (trailing n) f (h x ∷ []) held in
+    let at : n ≡ length g = sym (length_changed p (trailing n) f) in
     ap (changed n h) before ∙ ap (λ k. changed k h (g ++ x ∷ [])) at ∙ changed_end h g x ∙ sym after
 
 -- what stands at a node
@@ -70,7 +69,7 @@ pub node_last : (f : Forest) (x : Node) → node_at (length f) (f ++ x ∷ []) �
 node_last [] x = refl
 node_last (y ∷ f) x = node_last f x
 
-pub kind_changed : (q p n : ℕ) (f : Forest) → kind_at q (changed p (behind n) f) ≡ kind_at q f
+pub kind_changed : (q p n : ℕ) (f : Forest) → kind_at q (changed p (trailing n) f) ≡ kind_at q f
 kind_changed q p n [] = refl
 kind_changed zero zero n (x ∷ f) = refl
 kind_changed zero (suc p) n (x ∷ f) = refl

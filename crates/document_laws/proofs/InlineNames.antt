@@ -1,6 +1,6 @@
 -- Names of marks and of links, and what the rules of the body make of their tags.
-use Rattle.std.proofs.Common.{◌≡◌, ℕ, ◌||◌, Bool, true, false, List, [], ◌∷◌, None, codes, bytes_eq, refl, sym, ap}
-use Rattle.std.proofs.Common.{subst, ◌∙◌}
+use Rattle.std.proofs.Common.{◌≡◌, ◌||◌, [], ◌∷◌, ◌∙◌, Bool, List, None, ap, bytes_eq, codes, false, refl, subst, sym}
+use Rattle.std.proofs.Common.{true, ℕ}
 use Rattle.std.proofs.lemmas.Slice.Eq.{bytes_eq-Decides}
 use Rattle.tree_formatting.specs.Entries.{last_named}
 use Rattle.html_lexemes.specs.declared.token.Tag.{Tag}
@@ -12,7 +12,7 @@ use Rattle.tree_names.specs.declared.group.TagGroup.TheVariants as groups
 use Rattle.rules_table.specs.Actions.{adopt}
 use Rattle.rules_table.specs.InBody.{in_body_start}
 use Rattle.rules_table.specs.InBodyEnds.{in_body_end}
-use Rattle.rules_table.specs.InBodyPhrases.{anchor_behind, formatting_start, void_phrase_start}
+use Rattle.rules_table.specs.InBodyPhrases.{anchor_after, formatting_start, void_phrase_start}
 use Rattle.rules_table.specs.Rows.{done}
 use Rattle.rules_table.specs.State.{State}
 use Rattle.document_laws.specs.Contents.{marks}
@@ -129,7 +129,7 @@ link_is = record {
 
 pub link_opens : (t : Tag) (s : State) → last_named t.name s.tree.formatting ≡ None →
     in_body_start (tag_group (codes "a")) t s ≡ formatting_start t
-link_opens t s none = ap (λ g. in_body_start g t s) group_a ∙ ap (λ n. anchor_behind n t) none
+link_opens t s none = ap (λ g. in_body_start g t s) group_a ∙ ap (λ n. anchor_after n t) none
 
 pub break_opens : (t : Tag) (s : State) → in_body_start (tag_group (codes "br")) t s ≡ void_phrase_start t
 break_opens t s = ap (λ g. in_body_start g t s) group_br

@@ -1,7 +1,7 @@
 -- Inline contents rebuild: below the current node what was planted stands, and of the list of active formatting
 -- elements some are left.
-use Rattle.std.proofs.Common.{◌≡◌, ℕ, ◌<◌, ◌||◌, inl, Bool, true, false, List, [], ◌∷◌, None, codes, Some}
-use Rattle.std.proofs.Common.{bytes_eq, refl, sym, ap, subst, ◌∙◌}
+use Rattle.std.proofs.Common.{◌≡◌, ◌<◌, ◌||◌, [], ◌∷◌, ◌∙◌, Bool, List, None, Some, ap, bytes_eq, codes, false, inl}
+use Rattle.std.proofs.Common.{refl, subst, sym, true, ℕ}
 use Rattle.tree_formatting.specs.Entries.{Entry, last_named}
 use Rattle.tree_formatting.specs.Pushing.{pushed}
 use Rattle.tree_forest.specs.Forest.{Forest, name_of, nodes, text}
@@ -15,24 +15,20 @@ use Rattle.rules_table.specs.Actions.{refuse_frameset}
 use Rattle.rules_table.specs.InBody.{in_body_start}
 use Rattle.rules_table.specs.InBodyPhrases.{formatting_start}
 use Rattle.rules_table.specs.State.{State}
-use Rattle.document_laws.specs.Contents.{Content, IsInlines, end_of}
-use Rattle.document_laws.specs.Contents.{inline, line_break, link, mark, none, nothing, say, span}
-use Rattle.document_laws.specs.Contents.{start_of}
+use Rattle.document_laws.specs.Contents.{Content, IsInlines, end_of, inline, line_break, link, mark, none, nothing, say}
+use Rattle.document_laws.specs.Contents.{span, start_of, tokens_and}
 use Rattle.document_laws.specs.Contents as kinds
-use Rattle.document_laws.specs.Contents.{tokens_and}
 use Rattle.document_laws.specs.Planted.{of_html, planted, with_new, with_text}
 use Rattle.document_laws.proofs.Adopting.{adopted_now, closes}
 use Rattle.document_laws.proofs.InlineNames.{IsListedName, break_opens, link_is, link_opens, mark_is, mark_opens}
-use Rattle.document_laws.proofs.Planting.{Keeps, behind_element, element_kind, grown_keeps, in_element, keeps_on}
+use Rattle.document_laws.proofs.Planting.{Keeps, after_element, element_kind, grown_keeps, in_element, keeps_on}
 use Rattle.document_laws.proofs.Planting.{last_held, last_text, name_kept, new_name, planted_keeps, size_grown}
 use Rattle.document_laws.proofs.Planting.{still_held}
 use Rattle.document_laws.proofs.Said.{run_said, says_one}
 use Rattle.document_laws.proofs.Standing.{built, end_taken, ending, if_false, listed_now, now, opening}
-use Rattle.document_laws.proofs.Standing.{reconstructed_now}
-use Rattle.document_laws.proofs.Standing.{refused_now, runs, runs_on, start_taken, stepped, void_now}
-use Rattle.document_laws.proofs.Sublists.{AllUnder, AreOpen, IsFree, IsSub, NoLink, no_link_named}
-use Rattle.document_laws.proofs.Sublists.{shortened, shortened_sub, sub_free, sub_itself, sub_open, sub_trans}
-use Rattle.document_laws.proofs.Sublists.{under_more}
+use Rattle.document_laws.proofs.Standing.{reconstructed_now, refused_now, runs, runs_on, start_taken, stepped, void_now}
+use Rattle.document_laws.proofs.Sublists.{AllUnder, AreOpen, IsFree, IsSub, NoLink, no_link_named, shortened}
+use Rattle.document_laws.proofs.Sublists.{shortened_sub, sub_free, sub_itself, sub_open, sub_trans, under_more}
 pub use Rattle.document_laws.specs.Parts.{IsFresh}
 
 -- the current node is an element of HTML that holds what is inserted, the open ones have lesser numbers than new nodes,
@@ -269,13 +265,13 @@ link_starts s ok stack entries f name attributes e free =
     ≡ formatting_start (opening n attributes)) (sym e)
     (link_opens (opening (codes "a") attributes) (now s ok stack entries f) (none_listed s ok stack entries f free))
 
-pub inlines_come : (linked behind_text : Bool) (content : Content) → IsInlines linked behind_text content →
+pub inlines_come : (linked after_text : Bool) (content : Content) → IsInlines linked after_text content →
     (s : State) (ok : Bool) (p : ℕ) (rest : List ℕ) (entries : List Entry) (f : Forest) (more : List Item) →
-    Stands p rest entries f → IsFree linked entries → IsFresh behind_text p f →
+    Stands p rest entries f → IsFree linked entries → IsFresh after_text p f →
     Comes s ok p rest entries f (tokens_and content more) more (planted p content f)
-inlines_come linked behind_text none (nothing _ _) s ok p rest entries f more stands free fresh =
+inlines_come linked after_text none (nothing _ _) s ok p rest entries f more stands free fresh =
     record { flag = ok; left = entries; sub = sub_itself entries; come = refl }
-inlines_come linked behind_text (say c cs after) (kinds.text _ _ _ _ is) s ok p rest entries f more stands free fresh =
+inlines_come linked after_text (say c cs after) (kinds.text _ _ _ _ is) s ok p rest entries f more stands free fresh =
     let first = text_comes s ok p rest entries f c cs (tokens_and after more) stands fresh in
     let g = with_text p (c ∷ cs) f in
     comes_on s ok p rest entries f g (planted p after g) (characters (c ∷ cs) ∷ tokens_and after more)
@@ -283,14 +279,14 @@ inlines_come linked behind_text (say c cs after) (kinds.text _ _ _ _ is) s ok p 
     (inlines_come linked true after is s first.flag p rest first.left g more
     (stands_after p rest entries first.left f g stands (grown_keeps p (text (c ∷ cs)) f) first.sub)
     (sub_free linked first.left entries first.sub free) tt)
-inlines_come linked behind_text (span name attributes kids after) (inline _ _ line_break _ _ _ _ is inner further) s ok
+inlines_come linked after_text (span name attributes kids after) (inline _ _ line_break _ _ _ _ is inner further) s ok
     p rest entries f more stands free fresh =
     let g = with_new p (codes "br") [] f in
     break_comes s ok p rest entries f name attributes kids after more stands is.0 is.1.0 is.1.1
     (inlines_come linked false after further s false p rest entries g more
     (stands_after p rest entries entries f g stands (grown_keeps p (element_kind (codes "br") []) f)
-    (sub_itself entries)) free (behind_element p (codes "br") [] none f stands.held))
-inlines_come linked behind_text (span name attributes kids after) (inline _ _ mark _ _ _ _ is inner further) s ok p
+    (sub_itself entries)) free (after_element p (codes "br") [] none f stands.held))
+inlines_come linked after_text (span name attributes kids after) (inline _ _ mark _ _ _ _ is inner further) s ok p
     rest entries f more stands free fresh =
     let m = mark_is name is.0 in
     let t = opening name attributes in
@@ -303,8 +299,8 @@ inlines_come linked behind_text (span name attributes kids after) (inline _ _ ma
     (free_pushed linked (nodes f) name attributes entries m.no_link free)
     (in_element p name attributes f stands.held))
     (λ flag left sub here. inlines_come linked false after further s flag p rest left h more here
-    (sub_free linked left entries sub free) (behind_element p name attributes kids f stands.held))
-inlines_come linked behind_text (span name attributes kids after) (inline _ _ link _ _ _ _ is inner further) s ok p
+    (sub_free linked left entries sub free) (after_element p name attributes kids f stands.held))
+inlines_come linked after_text (span name attributes kids after) (inline _ _ link _ _ _ _ is inner further) s ok p
     rest entries f more stands free fresh =
     let listed = link_listed name is.0 in
     let t = opening name attributes in
@@ -316,4 +312,4 @@ inlines_come linked behind_text (span name attributes kids after) (inline _ _ li
     (end_of name ∷ tokens_and after more) (inside_stands p rest entries f name attributes stands listed)
     tt (in_element p name attributes f stands.held))
     (λ flag left sub here. inlines_come linked false after further s flag p rest left h more here
-    (sub_free linked left entries sub free) (behind_element p name attributes kids f stands.held))
+    (sub_free linked left entries sub free) (after_element p name attributes kids f stands.held))

@@ -1,14 +1,13 @@
 -- A table of references that has the names of escapes knows them: in no name of a table a semicolon stands before the
 -- end.
-use Rattle.std.proofs.Common.{◌≡◌, ℕ, ◌==◌, ◌&&◌, true, false, IsTrue, List, [], ◌∷◌, ◌++◌, codes, length, Option}
-use Rattle.std.proofs.Common.{None, Some}
-use Rattle.std.proofs.Common.{if◌then◌else◌, refl, sym, ap, subst, ◌∙◌, arith, nat_lt}
+use Rattle.std.proofs.Common.{◌≡◌, ◌==◌, ◌&&◌, [], ◌∷◌, ◌++◌, if◌then◌else◌, ◌∙◌, IsTrue, List, None, Option, Some, ap}
+use Rattle.std.proofs.Common.{arith, codes, false, length, nat_lt, refl, subst, sym, true, ℕ}
 use Rattle.std.proofs.lemmas.Bool.{and_parts}
 use Rattle.std.proofs.lemmas.Bool.Decides.{nat_tests}
 use Rattle.std.specs.FinMap as finite
 use Rattle.std.specs.List.{list_all}
 use Rattle.lex_base.specs.References.{References, is_alphanumeric, is_name, is_value, without_semicolon}
-use Rattle.document_laws.proofs.BasicTable.{goes_on, goes_on_behind}
+use Rattle.document_laws.proofs.BasicTable.{goes_on, goes_on_after}
 use Rattle.document_laws.specs.Escaped.{KnowsEscapes}
 
 no_semicolon : (c : ℕ) → is_alphanumeric c ≡ true → (c == 59) ≡ false
@@ -45,5 +44,5 @@ module _ (table : References) (names : (name value : List ℕ) → finite.get ta
     greater = greater;
     quote = quote;
     space = space;
-    ends = λ front c more. not_there (front ++ 59 ∷ c ∷ more) (goes_on_behind front c more) _ refl;
+    ends = λ front c more. not_there (front ++ 59 ∷ c ∷ more) (goes_on_after front c more) _ refl;
   }

@@ -1,6 +1,6 @@
 -- What stands around a body: from a page's first item to its body's start tag, and from the body's end tag to the end.
-use Rattle.std.proofs.Common.{◌≡◌, ℕ, ◌||◌, Bool, true, false, List, [], ◌∷◌, Option, None, Some, codes}
-use Rattle.std.proofs.Common.{refl, sym, ap, subst, ◌∙◌, arith}
+use Rattle.std.proofs.Common.{◌≡◌, ◌||◌, [], ◌∷◌, ◌∙◌, Bool, List, None, Option, Some, ap, arith, codes, false, refl}
+use Rattle.std.proofs.Common.{subst, sym, true, ℕ}
 use Rattle.std.specs.Option.{option_map}
 use Rattle.html_lexemes.specs.declared.token.Tag.{Tag}
 use Rattle.tree_formatting.specs.Entries.{Entry}
@@ -18,8 +18,7 @@ use Rattle.tree_names.specs.Wanted.{one}
 use Rattle.tree_names.specs.Groups.{tag_group}
 use Rattle.tree_names.specs.declared.group.TagGroup.TheVariants as groups
 use Rattle.rules_table.specs.Actions.{Action, act, act_all, append_doctype, at_place, go_back, go_to, insert, keep_head}
-use Rattle.rules_table.specs.Actions.{pop}
-use Rattle.rules_table.specs.Actions.{refuse_frameset, say, set_quirks}
+use Rattle.rules_table.specs.Actions.{pop, refuse_frameset, say, set_quirks}
 use Rattle.rules_table.specs.AfterHead.{after_head_start}
 use Rattle.rules_table.specs.AfterBody.{after_body_end}
 use Rattle.rules_table.specs.BeforeHead.{before_head_start}
@@ -31,7 +30,7 @@ use Rattle.rules_table.specs.Rank.{rank}
 use Rattle.rules_table.specs.Rows.{asks, done, ignored}
 use Rattle.rules_table.specs.Rule.{foreign_row, rule}
 use Rattle.rules_table.specs.Settling.{entered, given_by, past_tag, settle, taken, taken_character}
-use Rattle.rules_table.specs.State.{Ask, Mark, State, character, doctype, finish, raw, start}
+use Rattle.rules_table.specs.State.{Ask, TreeToken, State, character, doctype, finish, raw, start}
 use Rattle.rules_table.specs.State as marks
 use Rattle.rules_table.specs.Table.{row}
 use Rattle.rules_table.specs.TextMode.{text_mode_end}
@@ -46,8 +45,8 @@ use Rattle.document_laws.proofs.BlockSteps.{first_in_scope}
 use Rattle.document_laws.proofs.Inlines.{no_template}
 use Rattle.document_laws.proofs.Planting.{Keeps, element_kind, grown_keeps, keeps_itself, keeps_on}
 use Rattle.document_laws.proofs.Said.{SaysOne, run_said}
-use Rattle.document_laws.proofs.Standing.{built, end_taken, ending, html_takes, if_false, if_true, now, opening}
-use Rattle.document_laws.proofs.Standing.{runs, runs_on, settled_as, stepped, stepped_done, taken_done}
+use Rattle.document_laws.proofs.Standing.{built, end_taken, ending, html_takes, if_false, if_true, now, opening, runs}
+use Rattle.document_laws.proofs.Standing.{runs_on, settled_as, stepped, stepped_done, taken_done}
 
 -- a state outside the body
 unfoldable pub page_at : State → InsertionMode → List ℕ → Forest → State
@@ -65,14 +64,14 @@ pub record Reaches (s : State) (items more : List Item) (mode : InsertionMode) (
   pub come : runs s items ≡ runs (page_at at mode stack f) more
 
 -- a mark that the mode's rules take
-rule_taken : (mark : Mark) (s : State) → is_by_mode mark s ≡ true → rule mark s ≡ row s.mode mark s
+rule_taken : (mark : TreeToken) (s : State) → is_by_mode mark s ≡ true → rule mark s ≡ row s.mode mark s
 rule_taken mark s e = if_true (is_by_mode mark s) (row s.mode mark s) (foreign_row mark s) e
 
 or_true : (x y : Bool) → y ≡ true → (x || y) ≡ true
 or_true true y e = refl
 or_true false y e = e
 
-by_mode_at : (mark : Mark) (s : State) (mode : InsertionMode) (p : ℕ) (rest : List ℕ) (f : Forest) (word : List ℕ) →
+by_mode_at : (mark : TreeToken) (s : State) (mode : InsertionMode) (p : ℕ) (rest : List ℕ) (f : Forest) (word : List ℕ) →
     name_of p f ≡ of_html word → is_by_mode mark (page_at s mode (p ∷ rest) f) ≡ true
 unfolding page_at built
 by_mode_at mark s mode p rest f word e = or_true _ (takes mark (name_of p f) (is_integration_point p f))
@@ -80,7 +79,7 @@ by_mode_at mark s mode p rest f word e = or_true _ (takes mark (name_of p f) (is
     (html_takes mark word (is_integration_point p f)))
 
 -- what an item of a page comes to, by a row of its mode
-stepped_at : (t : Tag) (mark : Mark) (s : State) (mode : InsertionMode) (p : ℕ) (rest : List ℕ) (f : Forest)
+stepped_at : (t : Tag) (mark : TreeToken) (s : State) (mode : InsertionMode) (p : ℕ) (rest : List ℕ) (f : Forest)
     (word : List ℕ) (actions : List Action) → name_of p f ≡ of_html word →
     row mode mark (page_at s mode (p ∷ rest) f) ≡ done actions →
     settled_as t (taken mark (page_at s mode (p ∷ rest) f)) ≡ Some (act_all actions (page_at s mode (p ∷ rest) f))
@@ -89,7 +88,7 @@ stepped_at t mark s mode p rest f word actions named is =
     let here = page_at s mode (p ∷ rest) f in
     stepped_done t mark here actions (rule_taken mark here (by_mode_at mark s mode p rest f word named) ∙ is)
 
-taken_at : (mark : Mark) (s : State) (mode : InsertionMode) (p : ℕ) (rest : List ℕ) (f : Forest) (word : List ℕ)
+taken_at : (mark : TreeToken) (s : State) (mode : InsertionMode) (p : ℕ) (rest : List ℕ) (f : Forest) (word : List ℕ)
     (actions : List Action) → name_of p f ≡ of_html word →
     row mode mark (page_at s mode (p ∷ rest) f) ≡ done actions →
     (taken mark (page_at s mode (p ∷ rest) f)).state ≡ act_all actions (page_at s mode (p ∷ rest) f)
@@ -98,7 +97,7 @@ taken_at mark s mode p rest f word actions named is =
     let here = page_at s mode (p ∷ rest) f in
     taken_done mark here actions (rule_taken mark here (by_mode_at mark s mode p rest f word named) ∙ is)
 
-stepped_asks : (t : Tag) (mark : Mark) (s : State) (ask : Ask) (actions : List Action) → rule mark s
+stepped_asks : (t : Tag) (mark : TreeToken) (s : State) (ask : Ask) (actions : List Action) → rule mark s
     ≡ asks ask actions →
     settled_as t (taken mark s)
     ≡ settled_as t (record { ask = ask; state = entered ask (act_all actions s) })
@@ -164,15 +163,15 @@ plain_doctype = record {
   force_quirks = false;
 }
 
-abbrev behind_doctype : State → State
-behind_doctype s = record s {
+abbrev after_doctype : State → State
+after_doctype s = record s {
   quirks = quirks_of plain_doctype;
   tree = record s.tree { quirks = quirks_of plain_doctype };
 }
 
 doctype_acts : (s : State) → act_all (append_doctype plain_doctype ∷ set_quirks (quirks_of plain_doctype)
     ∷ go_to modes.BeforeHtml ∷ []) (page_at s modes.Initial [] page_alone)
-    ≡ page_at (behind_doctype s) modes.BeforeHtml [] with_one
+    ≡ page_at (after_doctype s) modes.BeforeHtml [] with_one
 unfolding page_at built act
 doctype_acts s = refl
 
@@ -183,7 +182,7 @@ unfolding page_at built
 doctype_rule s keeps = if_false s.options.drop_doctype _ _ keeps
 
 doctype_step : (s : State) → IsAtBeginning s → s.tree.forest ≡ page_alone → s.options.drop_doctype ≡ false →
-    stepped s html_doctype ≡ Some (page_at (behind_doctype s) modes.BeforeHtml [] with_one)
+    stepped s html_doctype ≡ Some (page_at (after_doctype s) modes.BeforeHtml [] with_one)
 doctype_step s is alone keeps =
     ap Some (ap (λ z. (taken (doctype plain_doctype) z).state) (begins s is alone)
     ∙ taken_done (doctype plain_doctype) (page_at s modes.Initial [] page_alone) _ (doctype_rule s keeps)
@@ -332,7 +331,7 @@ pub beginning_reaches : (s : State) (more : List Item) → IsAtBeginning s → s
     Reaches s (html_doctype ∷ start_of (codes "html") [] ∷ start_of (codes "head") [] ∷ more) more modes.InHead
     (3 ∷ 2 ∷ []) head_alone
 beginning_reaches s more is alone keeps =
-    let s' = behind_doctype s in
+    let s' = after_doctype s in
     let items = start_of (codes "head") [] ∷ more in
     record {
       at = record s' { head = Some 3 };

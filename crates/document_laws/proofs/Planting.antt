@@ -1,15 +1,15 @@
 -- What a tree that is planted keeps of the forest before, and what stands last below its node.
-use Rattle.std.proofs.Common.{◌≡◌, ℕ, ◌<◌, ◌≤◌, zero, suc, List, [], ◌∷◌, ◌++◌, Option, None, Some, length}
-use Rattle.std.proofs.Common.{refl, sym, ap, ◌∙◌, arith}
+use Rattle.std.proofs.Common.{◌≡◌, ◌<◌, ◌≤◌, [], ◌∷◌, ◌++◌, ◌∙◌, List, None, Option, Some, ap, arith, length, refl, suc}
+use Rattle.std.proofs.Common.{sym, zero, ℕ}
 use Rattle.tree_forest.specs.Changes.{changed, saying}
-use Rattle.tree_forest.specs.Forest.{Forest, Kind, Node, children_at, element_of, kind_at, name_of, node_at}
-use Rattle.tree_forest.specs.Forest.{nodes, text, text_of}
-use Rattle.tree_forest.specs.Places.{behind, below, last_of, put_words}
+use Rattle.tree_forest.specs.Forest.{Forest, Kind, Node, children_at, element_of, kind_at, name_of, node_at, nodes}
+use Rattle.tree_forest.specs.Forest.{text, text_of}
+use Rattle.tree_forest.specs.Places.{trailing, below, last_of, put_words}
 use Rattle.html_lexemes.specs.declared.names.Attribute.{Attribute}
 use Rattle.document_laws.specs.Contents.{Content, none, say, span}
 use Rattle.document_laws.specs.Planted.{node_of_element, of_html, planted, with_new, with_text}
-use Rattle.document_laws.proofs.Growing.{changed_last, kind_changed, length_grown, node_before}
-use Rattle.document_laws.proofs.Growing.{node_changed, node_here, node_last}
+use Rattle.document_laws.proofs.Growing.{changed_last, kind_changed, length_grown, node_before, node_changed, node_here}
+use Rattle.document_laws.proofs.Growing.{node_last}
 pub use Rattle.document_laws.specs.Parts.{last_text, text_at}
 
 -- a node without children, as the last child of another
@@ -17,7 +17,7 @@ abbrev pub leaf : Kind → Node
 leaf kind = record { kind = kind; children = [] }
 
 abbrev pub grown : ℕ → Kind → Forest → Forest
-grown p kind f = changed p (behind (nodes f)) (f ++ leaf kind ∷ [])
+grown p kind f = changed p (trailing (nodes f)) (f ++ leaf kind ∷ [])
 
 -- no node goes, and each is of the kind that it was
 pub record Keeps (f g : Forest) : Type 0 where
@@ -65,7 +65,7 @@ grown_keeps p kind f = record {
 pub grown_other : (q p : ℕ) (kind : Kind) (f : Forest) → q < nodes f → ¬ (q ≡ p) →
     node_at q (grown p kind f) ≡ node_at q f
 grown_other q p kind f held other =
-    node_changed q p (behind (nodes f)) (f ++ leaf kind ∷ []) other ∙ node_before q f (leaf kind ∷ []) held
+    node_changed q p (trailing (nodes f)) (f ++ leaf kind ∷ []) other ∙ node_before q f (leaf kind ∷ []) held
 
 pub grown_kind : (p : ℕ) (kind : Kind) (f : Forest) → kind_at (nodes f) (grown p kind f) ≡ kind
 grown_kind p kind f = kind_changed (nodes f) p (nodes f) (f ++ leaf kind ∷ [])
@@ -73,7 +73,7 @@ grown_kind p kind f = kind_changed (nodes f) p (nodes f) (f ++ leaf kind ∷ [])
 
 pub grown_children : (p : ℕ) (kind : Kind) (f : Forest) → p < nodes f → children_at (nodes f) (grown p kind f) ≡ []
 grown_children p kind f held = ap (λ x. x.children)
-    (node_changed (nodes f) p (behind (nodes f)) (f ++ leaf kind ∷ []) (λ e. apart p (nodes f) held (sym e))
+    (node_changed (nodes f) p (trailing (nodes f)) (f ++ leaf kind ∷ []) (λ e. apart p (nodes f) held (sym e))
     ∙ node_last f (leaf kind))
 
 last_put : (n : ℕ) (ns : List ℕ) → last_of (ns ++ n ∷ []) ≡ Some n
@@ -90,7 +90,7 @@ more_held (suc p) (y ∷ f) x held = let k : p < length (f ++ x ∷ []) = more_h
 pub grown_last : (p : ℕ) (kind : Kind) (f : Forest) → p < nodes f →
     last_of (children_at p (grown p kind f)) ≡ Some (nodes f)
 grown_last p kind f held =
-    ap (λ x. last_of x.children) (node_here p (behind (nodes f)) (f ++ leaf kind ∷ []) (more_held p f (leaf kind) held))
+    ap (λ x. last_of x.children) (node_here p (trailing (nodes f)) (f ++ leaf kind ∷ []) (more_held p f (leaf kind) held))
     ∙ last_put (nodes f) (children_at p (f ++ leaf kind ∷ []))
 
 -- a character after no text, and after one
@@ -103,14 +103,14 @@ pub first_said : (p c : ℕ) (f : Forest) → last_text p f ≡ None →
     put_words (below p) (c ∷ []) f ≡ with_text p (c ∷ []) f
 first_said p c f no_text = first_by (last_of (children_at p f)) p c f refl no_text
 
-said_behind : (p c n : ℕ) (ds : List ℕ) (f : Forest) → last_of (children_at p f) ≡ Some n →
+said_after : (p c n : ℕ) (ds : List ℕ) (f : Forest) → last_of (children_at p f) ≡ Some n →
     text_of (kind_at n f) ≡ Some ds → put_words (below p) (c ∷ []) f ≡ changed n (saying (c ∷ [])) f
-said_behind p c n ds f e is = rw (e, is)
+said_after p c n ds f e is = rw (e, is)
 
 pub more_said : (p c : ℕ) (ds : List ℕ) (f : Forest) → p < nodes f →
     put_words (below p) (c ∷ []) (with_text p ds f) ≡ with_text p (ds ++ c ∷ []) f
 more_said p c ds f held =
-    said_behind p c (nodes f) ds (with_text p ds f) (grown_last p (text ds) f held)
+    said_after p c (nodes f) ds (with_text p ds f) (grown_last p (text ds) f held)
     (ap text_of (grown_kind p (text ds) f))
     ∙ changed_last p (saying (c ∷ [])) f (leaf (text ds)) held
 
@@ -151,9 +151,9 @@ text_at_last : (found : Option ℕ) (n : ℕ) (f : Forest) (kind : Kind) → fou
     text_of kind ≡ None → text_at found f ≡ None
 text_at_last found n f kind e is no_text = rw (e, is) no_text
 
-pub behind_element : (p : ℕ) (name : List ℕ) (attributes : List Attribute) (kids : Content) (f : Forest) → p < nodes f →
+pub after_element : (p : ℕ) (name : List ℕ) (attributes : List Attribute) (kids : Content) (f : Forest) → p < nodes f →
     last_text p (planted (nodes f) kids (with_new p name attributes f)) ≡ None
-behind_element p name attributes kids f held =
+after_element p name attributes kids f held =
     let n = nodes f in
     let kind = element_kind name attributes in
     let g = with_new p name attributes f in

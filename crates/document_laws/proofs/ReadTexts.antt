@@ -1,12 +1,12 @@
 -- An escaped text is read as the text.
-use Rattle.std.proofs.Common.{◌≡◌, ℕ, Bool, ◌==◌, ◌&&◌, true, false, List, [], ◌∷◌, ◌++◌, drop, Option, Some}
-use Rattle.std.proofs.Common.{if◌then◌else◌, refl, sym, ap, subst, ◌∙◌, append_assoc, arith}
+use Rattle.std.proofs.Common.{◌≡◌, ◌==◌, ◌&&◌, [], ◌∷◌, ◌++◌, if◌then◌else◌, ◌∙◌, Bool, List, Option, Some, ap}
+use Rattle.std.proofs.Common.{append_assoc, arith, drop, false, refl, subst, sym, true, ℕ}
 use Rattle.std.proofs.lemmas.Bool.Decides.{nat_tests}
 use Rattle.tree_forest.specs.Forest.{is_in}
 use Rattle.token_grammar.specs.Characters.{shown}
 use Rattle.token_grammar.specs.Items.{characters, null_character}
-use Rattle.token_grammar.specs.Lexemes.{ends_raw_text, lexeme, lexeme_in, markup, one_character, ordinary_item}
-use Rattle.token_grammar.specs.Lexemes.{reference_lexeme, tag_lexeme, told}
+use Rattle.token_grammar.specs.Lexemes.{emitted, ends_raw_text, lexeme, lexeme_in, markup, one_character, ordinary_item}
+use Rattle.token_grammar.specs.Lexemes.{reference_lexeme, tag_lexeme}
 use Rattle.token_grammar.specs.Meaning.{Meaning}
 use Rattle.token_grammar.specs.Reading.{IsLawful, Reading, goes}
 use Rattle.token_grammar.specs.References.{named, reference}
@@ -48,10 +48,10 @@ itself_in table foreign Ordinary last c rest z a l h =
     let mode : Mode = record { text = Ordinary; last_start_tag = last } in
     ap (λ b. if b then markup table foreign mode rest
     else (if c == 38 then reference_lexeme mode rest (reference table rest)
-    else told (ordinary_item c ∷ []) mode rest)) l
+    else emitted (ordinary_item c ∷ []) mode rest)) l
     ∙ ap (λ b. if b then reference_lexeme mode rest (reference table rest)
-    else told (ordinary_item c ∷ []) mode rest) a
-    ∙ ap (λ b. told ((if b then null_character else characters (c ∷ [])) ∷ []) mode rest) z
+    else emitted (ordinary_item c ∷ []) mode rest) a
+    ∙ ap (λ b. emitted ((if b then null_character else characters (c ∷ [])) ∷ []) mode rest) z
 itself_in table foreign (Raw Rcdata) last c rest z a l h =
     let mode : Mode = record { text = Raw Rcdata; last_start_tag = last } in
     ap (λ b. if b && true && ends_raw_text last rest then tag_lexeme (tag_at table EndTag (drop 1 rest))
@@ -88,14 +88,14 @@ one_lexeme table foreign mode c _ rest (by_name name n is) z h =
 module _ {A H : Type 0} (table : References) (knows : KnowsEscapes table) (means : Meaning A H) {ready : A → Type 0}
     (lawful : IsLawful means ready) (mode : Mode) (reads : ReadsReferences mode.text) (rest : List ℕ) (final : A) where
   -- The characters of a text are emitted one by one, which is as if they were emitted together.
-  pub told_text : (state : A) (cs : List ℕ) → HasNoNul cs →
+  pub emitted_text : (state : A) (cs : List ℕ) → HasNoNul cs →
       Reading table means mode (means.step state (characters cs)) rest final →
       Reading table means mode state (escaped false cs ++ rest) final
-  told_text state [] h r = subst (λ s. Reading table means mode s rest final) (lawful.skips state) r
-  told_text state (c ∷ cs) h r =
+  emitted_text state [] h r = subst (λ s. Reading table means mode s rest final) (lawful.skips state) r
+  emitted_text state (c ∷ cs) h r =
       let one = one_lexeme table (means.foreign state) mode c (escaped_character false c) (escaped false cs ++ rest)
       (written table knows false c) (first_no_nul c cs h) reads in
-      let others = told_text (means.step state (characters (c ∷ []))) cs (later_no_nul c cs h)
+      let others = emitted_text (means.step state (characters (c ∷ []))) cs (later_no_nul c cs h)
       (subst (λ s. Reading table means mode s rest final) (sym (lawful.joins state (c ∷ []) cs)) r) in
       subst (λ t. Reading table means mode state t final)
       (sym (append_assoc (escaped_character false c) (escaped false cs) rest))

@@ -1,11 +1,9 @@
 -- An escaped value is read as the value.
-use Rattle.std.proofs.Common.{◌≡◌, ℕ, zero, suc, ◌<◌, ◌≤◌, ◌==◌, true, false, List, [], ◌∷◌, ◌++◌, length}
-use Rattle.std.proofs.Common.{None, Some}
-use Rattle.std.proofs.Common.{if◌then◌else◌, refl, ap, ◌∙◌, arith, length-append}
+use Rattle.std.proofs.Common.{◌≡◌, ◌<◌, ◌≤◌, ◌==◌, [], ◌∷◌, ◌++◌, if◌then◌else◌, ◌∙◌, List, None, Some, ap, arith}
+use Rattle.std.proofs.Common.{false, length, length-append, refl, suc, true, zero, ℕ}
 use Rattle.std.specs.Prelude.{option_and_then, option_map}
 use Rattle.tree_forest.specs.Forest.{is_in}
-use Rattle.token_grammar.specs.References.{kept_in_value, named, reference_in_value, value_from, value_of}
-use Rattle.token_grammar.specs.References.{value_step}
+use Rattle.token_grammar.specs.References.{kept_in_value, named, reference_in_value, value_from, value_of, value_step}
 use Rattle.token_grammar.specs.Slices.{after, begins, cut, cut_here, longer}
 use Rattle.lex_base.specs.References.{References}
 use Rattle.tree_serializer.specs.Escapes.{escaped, escaped_character}

@@ -1,6 +1,5 @@
 -- A text after no text becomes a node, character by character.
-use Rattle.std.proofs.Common.{◌≡◌, ℕ, ◌<◌, Bool, true, false, List, [], ◌∷◌, ◌++◌, None, fold}
-use Rattle.std.proofs.Common.{refl, sym, ap, ◌∙◌}
+use Rattle.std.proofs.Common.{◌≡◌, ◌<◌, [], ◌∷◌, ◌++◌, ◌∙◌, Bool, List, None, ap, false, fold, refl, sym, true, ℕ}
 use Rattle.std.proofs.lemmas.List.{append_assoc}
 use Rattle.tree_formatting.specs.Entries.{Entry}
 use Rattle.tree_forest.specs.Forest.{Forest, name_of, nodes, text}
@@ -16,8 +15,8 @@ use Rattle.rules_table.specs.Settling.{taken, taken_character}
 use Rattle.rules_table.specs.State.{State, character}
 use Rattle.document_laws.specs.Planted.{of_html, with_text}
 use Rattle.document_laws.proofs.Planting.{first_said, grown_keeps, last_text, more_said, name_kept}
-use Rattle.document_laws.proofs.Standing.{built, here_below, now, reconstructed_now, refused_now}
-use Rattle.document_laws.proofs.Standing.{rule_in_body, taken_done, with_tree_now}
+use Rattle.document_laws.proofs.Standing.{built, here_below, now, reconstructed_now, refused_now, rule_in_body}
+use Rattle.document_laws.proofs.Standing.{taken_done, with_tree_now}
 use Rattle.document_laws.proofs.Sublists.{AreOpen}
 
 -- one character of a text below a node of a name, whatever the state that a forest stands in

@@ -1,11 +1,10 @@
 -- A state in the body: its open elements, its listed ones, and its forest; and how a rule comes to it.
-use Rattle.std.proofs.Common.{◌≡◌, ℕ, ◌||◌, ◌&&◌, Bool, true, false, List, [], ◌∷◌, Option, None, Some, codes}
+use Rattle.std.proofs.Common.{◌≡◌, ◌||◌, ◌&&◌, [], ◌∷◌, if◌then◌else◌, ◌∙◌, Bool, List, None, Option, Some, ap, codes}
+use Rattle.std.proofs.Common.{false, refl, subst, sym, true, ℕ}
 use Rattle.std.specs.Option.{option_and_then}
 use Rattle.token_grammar.specs.Items as items
 use Rattle.html_lexemes.specs.declared.states.RawKind.TheVariants.{Rawtext, Rcdata, ScriptData, ScriptDataEscaped}
 use Rattle.html_lexemes.specs.declared.token.TagKind.{TagKind}
-use Rattle.std.proofs.Common.{if◌then◌else◌}
-use Rattle.std.proofs.Common.{refl, sym, ap, subst, ◌∙◌}
 use Rattle.tree_formatting.specs.Entries.{Entry, formatted, marker}
 use Rattle.tree_formatting.specs.Pushing.{pushed}
 use Rattle.tree_forest.specs.Forest.{Forest, is_integration_point, name_of, nodes}
@@ -30,7 +29,7 @@ use Rattle.rules_table.specs.Rank.{rank}
 use Rattle.rules_table.specs.Rows.{done}
 use Rattle.rules_table.specs.Rule.{foreign_row, rule}
 use Rattle.rules_table.specs.Settling.{Settled, given_by, past_tag, settle, step, taken, taken_tag}
-use Rattle.rules_table.specs.State.{Ask, Mark, State, character, comment, doctype, encoding, end_of_file, finish}
+use Rattle.rules_table.specs.State.{Ask, State, TreeToken, character, comment, doctype, encoding, end_of_file, finish}
 use Rattle.rules_table.specs.State.{nothing, null, plaintext, raw, script, start}
 use Rattle.rules_table.specs.Table.{row}
 use Rattle.tree_predicates.specs.declared.modes.InsertionMode.TheVariants.{InBody}
@@ -124,7 +123,7 @@ pub if_false : {A : Type 0} (b : Bool) (x y : A) → b ≡ false → (if b then 
 if_false b x y e = rw e
 
 -- where the current node is of HTML, its mode's rules take each mark
-pub html_takes : (mark : Mark) (local : List ℕ) (p : Bool) → takes mark (record { ns = Html; local = local }) p ≡ true
+pub html_takes : (mark : TreeToken) (local : List ℕ) (p : Bool) → takes mark (record { ns = Html; local = local }) p ≡ true
 html_takes (character c) local p = refl
 html_takes null local p = refl
 html_takes (comment cs) local p = refl
@@ -133,14 +132,14 @@ html_takes (start t) local p = refl
 html_takes (finish t) local p = refl
 html_takes end_of_file local p = refl
 
-by_mode : (mark : Mark) (s : State) (ok : Bool) (p : ℕ) (rest : List ℕ) (entries : List Entry) (f : Forest)
+by_mode : (mark : TreeToken) (s : State) (ok : Bool) (p : ℕ) (rest : List ℕ) (entries : List Entry) (f : Forest)
     (word : List ℕ) → name_of p f ≡ of_html word → is_by_mode mark (now s ok (p ∷ rest) entries f) ≡ true
 unfolding now built
 by_mode mark s ok p rest entries f word e =
     subst (λ name. takes mark name (is_integration_point p f) ≡ true) (sym e)
     (html_takes mark word (is_integration_point p f))
 
-pub rule_in_body : (mark : Mark) (s : State) (ok : Bool) (p : ℕ) (rest : List ℕ) (entries : List Entry) (f : Forest)
+pub rule_in_body : (mark : TreeToken) (s : State) (ok : Bool) (p : ℕ) (rest : List ℕ) (entries : List Entry) (f : Forest)
     (word : List ℕ) → name_of p f ≡ of_html word →
     rule mark (now s ok (p ∷ rest) entries f) ≡ row InBody mark (now s ok (p ∷ rest) entries f)
 unfolding now
@@ -148,11 +147,11 @@ rule_in_body mark s ok p rest entries f word e = if_true _ (row InBody mark (now
     (foreign_row mark (now s ok (p ∷ rest) entries f)) (by_mode mark s ok p rest entries f word e)
 
 -- a mark whose row is done
-pub taken_done : (mark : Mark) (s : State) (actions : List Action) → rule mark s ≡ done actions →
+pub taken_done : (mark : TreeToken) (s : State) (actions : List Action) → rule mark s ≡ done actions →
     (taken mark s).state ≡ act_all actions s
 taken_done mark s actions e = ap (λ r. (given_by r s (settle (rank mark s) mark)).state) e
 
-pub stepped_done : (t : Tag) (mark : Mark) (s : State) (actions : List Action) → rule mark s ≡ done actions →
+pub stepped_done : (t : Tag) (mark : TreeToken) (s : State) (actions : List Action) → rule mark s ≡ done actions →
     settled_as t (taken mark s) ≡ Some (act_all actions s)
 stepped_done t mark s actions e = ap (λ r. settled_as t (given_by r s (settle (rank mark s) mark))) e
 

@@ -1,7 +1,6 @@
 -- Lists of active formatting elements: those that are open, and what is left of others.
-use Rattle.std.proofs.Common.{◌≡◌, ℕ, ◌<◌, ◌≤◌, inl, inr, ◌==◌, ◌&&◌, Bool, true, false, List, [], ◌∷◌, None}
-use Rattle.std.proofs.Common.{if◌then◌else◌, codes}
-use Rattle.std.proofs.Common.{refl, sym, ap, subst, ◌∙◌, arith}
+use Rattle.std.proofs.Common.{◌≡◌, ◌<◌, ◌≤◌, ◌==◌, ◌&&◌, [], ◌∷◌, if◌then◌else◌, ◌∙◌, Bool, List, None, ap, arith}
+use Rattle.std.proofs.Common.{codes, false, inl, inr, refl, subst, sym, true, ℕ}
 use Rattle.std.proofs.lemmas.Bool.{eq-eqb, ne_eqb}
 use Rattle.std.specs.Bool.{nat_lt}
 use Rattle.tree_formatting.specs.Alike.{count_alike, is_alike}

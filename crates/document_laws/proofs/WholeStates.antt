@@ -1,11 +1,11 @@
 -- Parts of documents, from a state in the body to a state.
-use Rattle.std.proofs.Common.{◌≡◌, ℕ, inl, inr, Bool, false, true, List, [], ◌∷◌, Option, None, codes, fold, Some}
-use Rattle.std.proofs.Common.{sym, ap, ◌∙◌}
+use Rattle.std.proofs.Common.{◌≡◌, [], ◌∷◌, ◌∙◌, Bool, List, None, Option, Some, ap, codes, false, fold, inl, inr, sym}
+use Rattle.std.proofs.Common.{true, ℕ}
 use Rattle.tree_formatting.specs.Entries.{Entry}
 use Rattle.tree_forest.specs.Forest.{Forest, nodes}
 use Rattle.token_grammar.specs.Items.{Item}
 use Rattle.tree_names.specs.Sets.{is_html, is_one_of}
-use Rattle.rules_table.specs.Settling.{step}
+use Rattle.rules_table.specs.Settling.{step, taken_tag}
 use Rattle.rules_table.specs.State.{State}
 use Rattle.tree_predicates.specs.declared.modes.InsertionMode.{InsertionMode}
 use Rattle.tree_predicates.specs.declared.modes.InsertionMode.TheVariants.{InBody}
@@ -13,10 +13,8 @@ use Rattle.document_laws.specs.Contents.{tokens}
 use Rattle.document_laws.specs.Parts.{AllUnder, BlocksRebuild, HoldBlocks, HoldsItems, InlinesRebuild, IsInBody}
 use Rattle.document_laws.specs.Parts.{holders_of_blocks}
 use Rattle.document_laws.specs.Planted.{planted}
-use Rattle.document_laws.proofs.BlockNames.{IsOuterName, ol_list, outer, outer_body, outer_div, outer_html}
-use Rattle.document_laws.proofs.BlockNames.{outer_quote}
-use Rattle.document_laws.proofs.BlockNames.{outer_li}
-use Rattle.document_laws.proofs.BlockNames.{outer_ol, outer_ul, ul_list}
+use Rattle.document_laws.proofs.BlockNames.{IsOuterName, ol_list, outer, outer_body, outer_div, outer_html, outer_li}
+use Rattle.document_laws.proofs.BlockNames.{outer_ol, outer_quote, outer_ul, ul_list}
 use Rattle.document_laws.proofs.BlockSteps.{AreOuter}
 use Rattle.document_laws.proofs.Blocks.{IsAbove, blocks_come}
 use Rattle.document_laws.proofs.InlineNames.{for_one}
@@ -24,7 +22,6 @@ use Rattle.document_laws.proofs.Inlines.{inlines_come}
 use Rattle.document_laws.proofs.Standing.{built, kept_if, now, runs, stepped}
 use Rattle.token_grammar.specs.Items as items
 use Rattle.html_lexemes.specs.declared.token.Tag.{Tag}
-use Rattle.rules_table.specs.Settling.{taken_tag}
 use Rattle.std.proofs.lemmas.Option.{none-some, option_and_then_some, same_Some}
 
 body_of : State → InsertionMode → Option ℕ → (skips : Bool) → List ℕ → (fostering ok : Bool) → List Entry → Forest →
@@ -75,11 +72,11 @@ unfolding runs
 folded s s' z items e h = ap (λ x. fold step x items) e ∙ folds s' items z h
 
 pub inlines_whole : InlinesRebuild
-inlines_whole s p rest word linked behind_text content is stack named plain under are free fresh inlines =
+inlines_whole s p rest word linked after_text content is stack named plain under are free fresh inlines =
     let f = s.tree.forest in
     let entries = s.tree.formatting in
     let g = planted p content f in
-    let comes = inlines_come linked behind_text content inlines s s.frameset_ok p rest entries f [] (record {
+    let comes = inlines_come linked after_text content inlines s s.frameset_ok p rest entries f [] (record {
       word = word;
       named = named;
       plain = sym (ap (is_html (codes "template")) named) ∙ plain;

@@ -76,13 +76,13 @@ linked_in line_break linked = linked
 linked_in mark linked = linked
 linked_in link linked = true
 
-pub data IsInlines : (linked behind_text : Bool) → Content → Type 0 where
-  nothing : (linked behind_text : Bool) → IsInlines linked behind_text none
+pub data IsInlines : (linked after_text : Bool) → Content → Type 0 where
+  nothing : (linked after_text : Bool) → IsInlines linked after_text none
   text : (linked : Bool) (c : ℕ) (cs : List ℕ) (rest : Content) → IsInlines linked true rest →
       IsInlines linked false (say c cs rest)
-  inline : (linked behind_text : Bool) (kind : Inline) (name : List ℕ) (attributes : List Attribute)
+  inline : (linked after_text : Bool) (kind : Inline) (name : List ℕ) (attributes : List Attribute)
       (kids rest : Content) → IsInline kind linked name attributes kids → IsInlines (linked_in kind linked) false kids →
-      IsInlines linked false rest → IsInlines linked behind_text (span name attributes kids rest)
+      IsInlines linked false rest → IsInlines linked after_text (span name attributes kids rest)
 
 -- What may stand in a body, a division, a quote or an item, and the items of a list.
 pub data IsBlocks : (of_list : Bool) → Content → Type 0 where

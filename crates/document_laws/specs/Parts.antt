@@ -54,18 +54,18 @@ text_at (Some n) f = text_of (kind_at n f)
 abbrev pub last_text : ℕ → Forest → Option (List ℕ)
 last_text p f = text_at (last_of (children_at p f)) f
 
-abbrev pub IsFresh : (behind_text : Bool) → ℕ → Forest → Type 0
+abbrev pub IsFresh : (after_text : Bool) → ℕ → Forest → Type 0
 IsFresh true p f = Unit {0}
 IsFresh false p f = last_text p f ≡ None
 
 -- Of the list of active formatting elements some are left: where four bold elements stand in one another, the fourth
 -- takes the first off it.
 abbrev pub InlinesRebuild : Type 0
-InlinesRebuild = (s : State) (p : ℕ) (rest : List ℕ) (word : List ℕ) (linked behind_text : Bool) (content : Content) →
+InlinesRebuild = (s : State) (p : ℕ) (rest : List ℕ) (word : List ℕ) (linked after_text : Bool) (content : Content) →
     IsInBody s → s.tree.stack ≡ p ∷ rest → name_of p s.tree.forest ≡ of_html word →
     is_template p s.tree.forest ≡ false → AllUnder (nodes s.tree.forest) (p ∷ rest) →
-    AreOpen s.tree.formatting (p ∷ rest) → IsFree linked s.tree.formatting → IsFresh behind_text p s.tree.forest →
-    IsInlines linked behind_text content →
+    AreOpen s.tree.formatting (p ∷ rest) → IsFree linked s.tree.formatting → IsFresh after_text p s.tree.forest →
+    IsInlines linked after_text content →
     (ok : Bool) × (left : List Entry) × IsSub left s.tree.formatting × (fold step s (tokens content)
     ≡ record s {
       frameset_ok = ok;

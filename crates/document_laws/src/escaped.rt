@@ -10,9 +10,9 @@ ghost use Rattle.token_grammar.specs.declared.modes.Mode.{Mode as SeenMode};
 ghost use Rattle.lex_base.specs.References.{References, basic};
 ghost use Rattle.tree_serializer.specs.Escapes.{escaped};
 
+use html_lexemes::ReferenceTable;
 use token_grammar::TokenSink;
 use token_grammar::laws::{one_reading, some_reading};
-use html_lexemes::ReferenceTable;
 use tree_serializer::an_escape_holds_no_markup;
 
 /// The reading of an escaped text, whatever follows it, emits the text: in ordinary text, and in that of a title or a

@@ -45,5 +45,10 @@ mod escaped;
 mod rebuilt;
 mod rows;
 
-pub use escaped::{ a_table_of_these_names_knows_escapes, an_escaped_text_is_read_back, an_escaped_value_is_read_back, the_basic_table_knows_escapes, };
-pub use rebuilt::{ a_planted_tree_is_at_once, blocks_rebuild, documents_ask, documents_rebuild, inlines_rebuild, };
+pub use escaped::{
+    a_table_of_these_names_knows_escapes, an_escaped_text_is_read_back,
+    an_escaped_value_is_read_back, the_basic_table_knows_escapes,
+};
+pub use rebuilt::{
+    a_planted_tree_is_at_once, blocks_rebuild, documents_ask, documents_rebuild, inlines_rebuild,
+};

@@ -2,8 +2,8 @@
 use Rattle.std.proofs.Common.{◌≡◌, Bool, true, false, List, [], ◌∷◌, ◌++◌, true≢false, refl, sym, ap, ◌∙◌}
 use Rattle.std.specs.Prelude.{All, Option, None, Some, cond}
 use Rattle.std.proofs.lemmas.List.{append_assoc}
-use Rattle.std.proofs.lemmas.List.Elements.{All-nil, All-cons, All-head, All-tail, All-append, All-push, All-weaker}
-use Rattle.std.proofs.lemmas.List.Elements.{All-same}
+use Rattle.std.proofs.lemmas.List.Elements.{All-append, All-cons, All-head, All-nil, All-push, All-same, All-tail}
+use Rattle.std.proofs.lemmas.List.Elements.{All-weaker}
 use Rattle.dom_styles.specs.declared.cascade.Declared.{Declared}
 use Rattle.dom_styles.specs.Keys.{is_before, is_outranked}
 use Rattle.dom_styles.specs.Cascade.{Holds, IsCascaded}
@@ -77,9 +77,9 @@ module _ {T : Type 0} where
   in_the_middle P d (e ∷ es) rest all = in_the_middle P d es rest (All-tail P e (es ++ d ∷ rest) all)
 
   -- after the last of the greatest there is none of the greatest
-  not_behind : (d e f : Declared T) (rest fs others : List (Declared T)) → d ∷ rest ≡ f ∷ (fs ++ e ∷ others)
+  not_after : (d e f : Declared T) (rest fs others : List (Declared T)) → d ∷ rest ≡ f ∷ (fs ++ e ∷ others)
       → All (λ x. is_before x d ≡ true) rest → All (λ x. is_before e x ≡ false) (f ∷ fs) → ⊥
-  not_behind d e f rest fs others same last greatest =
+  not_after d e f rest fs others same last greatest =
       let first : d ≡ f = cc in
       let rest_is : fs ++ e ∷ others ≡ rest = cc in
       let less : is_before e d ≡ true = in_the_middle (λ x. is_before x d ≡ true) e fs others
@@ -93,9 +93,9 @@ module _ {T : Type 0} where
       → All (λ x. is_before e x ≡ false) other_front → All (λ x. is_before x e ≡ true) other_rest → d ≡ e
   one_greatest d e [] rest [] other_rest same greatest last other_greatest other_last = cc
   one_greatest d e [] rest (g ∷ gs) other_rest same greatest last other_greatest other_last =
-      absurd (not_behind d e g rest gs other_rest same last other_greatest)
+      absurd (not_after d e g rest gs other_rest same last other_greatest)
   one_greatest d e (f ∷ fs) rest [] other_rest same greatest last other_greatest other_last =
-      absurd (not_behind e d f other_rest fs rest (sym same) other_last greatest)
+      absurd (not_after e d f other_rest fs rest (sym same) other_last greatest)
   one_greatest d e (f ∷ fs) rest (g ∷ gs) other_rest same greatest last other_greatest other_last =
       one_greatest d e fs rest gs other_rest (cc)
       (All-tail (λ x. is_before d x ≡ false) f fs greatest) last

@@ -1,6 +1,6 @@
 -- That keys are totally ordered.
-use Rattle.std.proofs.Common.{◌≡◌, ℕ, Bool, true, false, List, [], ◌∷◌, length, Ordering, Less, Equal, Greater, refl}
-use Rattle.std.proofs.Common.{sym, ap, ◌∙◌, arith}
+use Rattle.std.proofs.Common.{◌≡◌, [], ◌∷◌, ◌∙◌, Bool, Equal, Greater, Less, List, Ordering, ap, arith, false, length}
+use Rattle.std.proofs.Common.{refl, sym, true, ℕ}
 use Rattle.std.specs.Prelude.{◌==◌, ◌||◌, ◌&&◌, cond, nat_lt}
 use Rattle.std.specs.Ordering.{is_lt, is_gt, ordering_reverse, ordering_then, nat_cmp}
 use Rattle.std.specs.Cmp.Lexicographic.{slice_cmp, nat_list_cmp_total}

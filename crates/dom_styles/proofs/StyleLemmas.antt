@@ -1,6 +1,6 @@
 -- What is declared, one declaration or one rule more.
-use Rattle.std.proofs.Common.{◌≡◌, ℕ, ◌+◌, ◌<◌, ◌≤◌, Bool, true, false, List, [], ◌∷◌, ◌++◌, length, map, take, get_or}
-use Rattle.std.proofs.Common.{refl, sym, ap, subst, ◌∙◌}
+use Rattle.std.proofs.Common.{◌≡◌, ◌+◌, ◌<◌, ◌≤◌, [], ◌∷◌, ◌++◌, ◌∙◌, Bool, List, ap, false, get_or, length, map, refl}
+use Rattle.std.proofs.Common.{subst, sym, take, true, ℕ}
 use Rattle.std.specs.Prelude.{Option, None, Some, option_map, cond, flat_map, filter, bytes_eq, ◌&&◌}
 use Rattle.std.specs.Borrow.{Bor}
 use Rattle.std.specs.List.{cons_option}
@@ -22,8 +22,8 @@ use Rattle.dom_styles.specs.declared.cascade.StyleOrigin.{StyleOrigin}
 use Rattle.dom_styles.specs.declared.computed.ComputedStyle.{ComputedStyle}
 use Rattle.dom_styles.specs.Keys.{is_before}
 use Rattle.dom_styles.specs.Cascade.{IsCascaded}
-use Rattle.dom_styles.specs.Styles.{with_val, of_property, colour_of, background_of, display_of, white_space_of}
-use Rattle.dom_styles.specs.Styles.{content_of, rule_declares, is_same_place, declared_by, declared_at}
+use Rattle.dom_styles.specs.Styles.{background_of, colour_of, content_of, declared_at, declared_by, display_of}
+use Rattle.dom_styles.specs.Styles.{is_same_place, of_property, rule_declares, white_space_of, with_val}
 use Rattle.dom_styles.specs.Seen.{IsComputed, IsStyled, holding, text_declared}
 use Rattle.dom_styles.specs.declared.computed.PlaceStyle.{PlaceStyle}
 use Rattle.dom_styles.proofs.CascadeLemmas.{updated, cascades_on, is_updated}

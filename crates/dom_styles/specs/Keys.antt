@@ -1,6 +1,6 @@
 -- What decides between declarations of one property (CSS 2.2, 6.4.1).
-use Rattle.std.specs.Prelude.{ℕ, ◌+◌, ◌-◌, ◌==◌, ◌||◌, ◌&&◌, nat_lt, min, Bool, true, false, List, [], ◌∷◌, Option}
-use Rattle.std.specs.Prelude.{None, Some}
+use Rattle.std.specs.Prelude.{◌+◌, ◌-◌, ◌==◌, ◌||◌, ◌&&◌, [], ◌∷◌, Bool, List, None, Option, Some, false, min, nat_lt}
+use Rattle.std.specs.Prelude.{true, ℕ}
 use Rattle.dom_styles.specs.declared.cascade.StyleOrigin.{StyleOrigin}
 use Rattle.dom_styles.specs.declared.cascade.StyleOrigin.TheVariants as origins
 use Rattle.dom_styles.specs.declared.cascade.Importance.{Importance}

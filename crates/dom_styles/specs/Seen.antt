@@ -9,8 +9,8 @@ use Rattle.dom_styles.specs.declared.rules.Style.{Style}
 use Rattle.dom_styles.specs.declared.rules.StyleRule.{StyleRule}
 use Rattle.dom_styles.specs.declared.rules.StylePlace.TheVariants as places
 use Rattle.dom_styles.specs.Cascade.{IsCascaded}
-use Rattle.dom_styles.specs.Styles.{with_val, of_property, colour_of, background_of, display_of, white_space_of}
-use Rattle.dom_styles.specs.Styles.{content_of, declared_at}
+use Rattle.dom_styles.specs.Styles.{background_of, colour_of, content_of, declared_at, display_of, of_property}
+use Rattle.dom_styles.specs.Styles.{white_space_of, with_val}
 
 -- the declaration that holds
 abbrev pub holding : {T : Type 0} → WithSpec T → Option (Declared T)

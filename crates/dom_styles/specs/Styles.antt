@@ -1,6 +1,6 @@
 -- What rules declare of an element.
-use Rattle.std.specs.Prelude.{ℕ, ◌&&◌, Bool, true, false, List, Option, None, Some, map, flat_map, filter, filter_map}
-use Rattle.std.specs.Prelude.{option_map, bytes_eq}
+use Rattle.std.specs.Prelude.{◌&&◌, Bool, List, None, Option, Some, bytes_eq, false, filter, filter_map, flat_map, map}
+use Rattle.std.specs.Prelude.{option_map, true, ℕ}
 use Rattle.text_decorators.specs.declared.colour.Colour.{Colour}
 use Rattle.text_pieces.specs.declared.white_space.WhiteSpace.{WhiteSpace}
 use Rattle.dom_styles.specs.declared.cascade.Declared.{Declared}

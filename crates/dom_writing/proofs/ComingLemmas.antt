@@ -1,7 +1,7 @@
 -- Siblings that are put before others, and taken.
-use Rattle.std.proofs.Common.{◌≡◌, ℕ, ◌+◌, ◌<◌, List, [], ◌∷◌, ◌++◌, length, refl, sym, ap, ap₂, subst, ◌∙◌, arith}
+use Rattle.std.proofs.Common.{◌≡◌, ◌+◌, ◌<◌, [], ◌∷◌, ◌++◌, ◌∙◌, ◌-◌, List, ap, append-nil, append_assoc, ap₂, arith}
+use Rattle.std.proofs.Common.{length, refl, subst, sym, take, ℕ}
 use Rattle.std.specs.Prelude.{replicate, MatchOption, Option, None, Some, option_to_list}
-use Rattle.std.proofs.Common.{append_assoc, append-nil, take, ◌-◌}
 use Rattle.std.proofs.lemmas.List.{length-append}
 use Rattle.std.specs.Str.{chars}
 use Rattle.tree_forest.specs.Forest.{Forest, Kind, children_at, kind_at, nodes}

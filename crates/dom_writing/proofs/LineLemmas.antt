@@ -1,6 +1,6 @@
 -- What is added to a line, word by word.
-use Rattle.std.proofs.Common.{◌≡◌, ℕ, zero, suc, ◌+◌, ◌*◌, List, [], ◌∷◌, ◌++◌, refl, ap, ◌∙◌, append_assoc}
-use Rattle.std.proofs.Common.{arith, replicate}
+use Rattle.std.proofs.Common.{◌≡◌, ◌+◌, ◌*◌, [], ◌∷◌, ◌++◌, ◌∙◌, List, ap, append_assoc, arith, refl, replicate, suc}
+use Rattle.std.proofs.Common.{zero, ℕ}
 use Rattle.std.specs.Prelude.{codes}
 use Rattle.std.specs.Str.{chars}
 use Rattle.tree_forest.specs.Forest.{Element, Kind, comment, doctype, document, element, instruction, text}

@@ -1,10 +1,10 @@
 -- Nodes that are there, and nodes that aren't.
-use Rattle.std.proofs.Common.{◌≡◌, ℕ, zero, suc, ◌<◌, ◌≤◌, ◌⊎◌, inl, inr, true, false, [], ◌∷◌, refl, sym, ap, ◌∙◌}
-use Rattle.std.proofs.Common.{arith, subst}
+use Rattle.std.proofs.Common.{◌≡◌, ◌<◌, ◌≤◌, ◌⊎◌, [], ◌∷◌, ◌∙◌, ap, arith, false, inl, inr, refl, subst, suc, sym, true}
+use Rattle.std.proofs.Common.{zero, ℕ}
 use Rattle.std.specs.Bool.{nat_lt}
 use Rattle.std.proofs.lemmas.Bool.{cases_lt, lt-ltb}
-use Rattle.tree_forest.specs.Forest.{Forest, IsElement, IsElementKind, Kind, Node, contents_of, document, element_of}
-use Rattle.tree_forest.specs.Forest.{comment, doctype, element, instruction, kind_at, nodes, text}
+use Rattle.tree_forest.specs.Forest.{Forest, IsElement, IsElementKind, Kind, Node, comment, contents_of, doctype}
+use Rattle.tree_forest.specs.Forest.{document, element, element_of, instruction, kind_at, nodes, text}
 use Rattle.tree_forest.specs.Orders.{IsDocument, IsForest, IsIn}
 use Rattle.tree_serializer.specs.Walks.{contents_or, inner_of}
 use Rattle.dom_writing.specs.Turns.{is_document}

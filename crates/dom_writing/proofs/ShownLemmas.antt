@@ -1,11 +1,11 @@
 -- What is shown of a text, run by run.
-use Rattle.std.proofs.Common.{◌≡◌, ℕ, Bool, true, false, List, [], ◌∷◌, ◌++◌, length, take, drop, Option, None}
-use Rattle.std.proofs.Common.{IsUtf8, refl, sym, ap, subst, ◌∙◌, take-append-drop, arith}
+use Rattle.std.proofs.Common.{◌≡◌, [], ◌∷◌, ◌++◌, ◌∙◌, Bool, IsUtf8, List, None, Option, ap, arith, drop, false, length}
+use Rattle.std.proofs.Common.{refl, subst, sym, take, take-append-drop, true, ℕ}
 use Rattle.std.proofs.lemmas.Bool.Decides.{nat_tests}
 use Rattle.std.proofs.lemmas.Grind.{flat_map-append}
 use Rattle.std.proofs.lemmas.List.{length-append}
-use Rattle.std.proofs.lemmas.Str.{chars_from_encodes, chars_past_char, chars-append, IsUtf8-take, IsUtf8-drop}
-use Rattle.std.proofs.lemmas.Str.{encode_same, length-encode, len_utf8_bounds}
+use Rattle.std.proofs.lemmas.Str.{IsUtf8-drop, IsUtf8-take, chars-append, chars_from_encodes, chars_past_char}
+use Rattle.std.proofs.lemmas.Str.{encode_same, len_utf8_bounds, length-encode}
 use Rattle.std.specs.Char.{char_set_contains, encode_utf8}
 use Rattle.std.specs.Str.{NoCharPasses, NonePass, chars}
 use Rattle.std.specs.Str.Pattern.{FindsBy, MatchBeginsAt}
@@ -51,20 +51,20 @@ not_at_end bs rest i found at none =
     let b = len_utf8_bounds hit.0 in
     omega arith
 
-pub mark_found : (bs run rest behind escape : List ℕ) (i c : ℕ) → IsUtf8 bs → MatchBeginsAt (FindsOneOf marks) bs i
-    → run ≡ take i bs → rest ≡ drop i bs → rest ≡ encode_utf8 c ++ behind
+pub mark_found : (bs run rest trailing escape : List ℕ) (i c : ℕ) → IsUtf8 bs → MatchBeginsAt (FindsOneOf marks) bs i
+    → run ≡ take i bs → rest ≡ drop i bs → rest ≡ encode_utf8 c ++ trailing
     → (is_mark c ≡ true → chars escape ≡ shown_character c)
-    → shown (chars bs) ≡ chars run ++ (chars escape ++ shown (chars behind))
-mark_found bs run rest behind escape i c u found is_run is_rest at is =
+    → shown (chars bs) ≡ chars run ++ (chars escape ++ shown (chars trailing))
+mark_found bs run rest trailing escape i c u found is_run is_rest at is =
     let all = found.1 is_mark (λ c. refl) in
     let hit = all.1 in
-    let one = encode_same c hit.0 behind (drop found.0 bs) (sym at ∙ is_rest ∙ hit.2.split) in
+    let one = encode_same c hit.0 trailing (drop found.0 bs) (sym at ∙ is_rest ∙ hit.2.split) in
     let mark : is_mark c ≡ true = ap is_mark one.0 ∙ hit.1 in
     let front : IsUtf8 (take i bs) = IsUtf8-take bs i u found.3 in
     let back : IsUtf8 (drop i bs) = IsUtf8-drop bs i u found.3 in
     let plain = plain_text (take i bs) front all.0 in
     let cut = ap chars (sym (take-append-drop i bs)) ∙ chars-append (take i bs) (drop i bs) front
-    ∙ ap (λ l. chars (take i bs) ++ l) (chars_past_char (drop i bs) behind c back (sym is_rest ∙ at)) in
-    ap shown cut ∙ flat_map-append shown_character (chars (take i bs)) (c ∷ chars behind)
-    ∙ ap (λ l. l ++ (shown_character c ++ shown (chars behind))) (plain ∙ ap chars (sym is_run))
-    ∙ ap (λ l. chars run ++ (l ++ shown (chars behind))) (sym (is mark))
+    ∙ ap (λ l. chars (take i bs) ++ l) (chars_past_char (drop i bs) trailing c back (sym is_rest ∙ at)) in
+    ap shown cut ∙ flat_map-append shown_character (chars (take i bs)) (c ∷ chars trailing)
+    ∙ ap (λ l. l ++ (shown_character c ++ shown (chars trailing))) (plain ∙ ap chars (sym is_run))
+    ∙ ap (λ l. chars run ++ (l ++ shown (chars trailing))) (sym (is mark))

@@ -1,16 +1,15 @@
 -- Steps of a walk.
-use Rattle.std.proofs.Common.{◌≡◌, ℕ, ◌<◌, List, [], ◌∷◌, ◌++◌, length, Result, Ok, Err, OnOk, IfErr, refl, sym}
-use Rattle.std.proofs.Common.{IsErrAnd, true, ap, subst, ◌∙◌, append_assoc, append-nil, arith}
-use Rattle.tree_forest.specs.Forest.{Forest, IsElement, IsElementKind, Kind, attributes_of, comment, doctype}
-use Rattle.tree_forest.specs.Forest.{document, element, element_of, instruction, text}
-use Rattle.tree_forest.specs.Forest.{kind_at, name_of, nodes}
+use Rattle.std.proofs.Common.{◌≡◌, ◌<◌, [], ◌∷◌, ◌++◌, ◌∙◌, Err, IfErr, IsErrAnd, List, Ok, OnOk, Result, ap}
+use Rattle.std.proofs.Common.{append-nil, append_assoc, arith, length, refl, subst, sym, true, ℕ}
+use Rattle.tree_forest.specs.Forest.{Forest, IsElement, IsElementKind, Kind, attributes_of, comment, doctype, document}
+use Rattle.tree_forest.specs.Forest.{element, element_of, instruction, kind_at, name_of, nodes, text}
 use Rattle.tree_forest.specs.Orders.{IsForest, IsIn}
 use Rattle.html_lexemes.specs.declared.names.Attribute.{Attribute}
 use Rattle.html_lexemes.specs.declared.names.QualName.{QualName}
 use Rattle.html_render_dom.specs.Numbers.{number_of}
 use Rattle.html_render_dom.specs.declared.node.Handle.{Handle}
 use Rattle.tree_serializer.specs.Calls.{Call, Reply, done, finish, refused, reply_of, start}
-use Rattle.tree_serializer.specs.Told.{IsTold, all, cut, further, out_of_memory}
+use Rattle.tree_serializer.specs.Emitted.{IsEmitted, all, cut, further, out_of_memory}
 use Rattle.tree_serializer.specs.Walks.{calls_by, calls_within, inner_of, joined}
 use Rattle.tree_serializer.specs.declared.fault.SerializeFault.{SerializeFault}
 use Rattle.tree_serializer.specs.declared.fault.SerializeFault.TheVariants.{Memory}
@@ -33,7 +32,7 @@ pub one_step : {S : Type 0} (means : S → Call → Reply → S → Type 0) (f :
     (calls : List Call) (turns : List Turn) → calls ≡ call ∷ pending f turns → AreReady f turns → means s call done t
     → IsStep means f s calls t turns
 one_step means f s t call calls turns e ready m = record {
-  told = λ reply u h. subst (λ l. IsTold means s l reply u) (sym e) (further s t call (pending f turns) reply u m h);
+  emitted = λ reply u h. subst (λ l. IsEmitted means s l reply u) (sym e) (further s t call (pending f turns) reply u m h);
   ready = ready;
   falls = subst (λ l. length (pending f turns) < length l) (sym e) (shorter call (pending f turns));
 }
@@ -48,10 +47,10 @@ leaf_ok means f s t call calls turns (Err fault) e ready m = tt
 pub leaf_err : {S : Type 0} {A : Type 0} (means : S → Call → Reply → S → Type 0) (f : Forest) (s t : S) (call : Call)
     (calls : List Call) (turns : List Turn) (r : Result A SerializeFault) → calls ≡ call ∷ []
     → means s call (reply_of r) t
-    → IfErr r (λ fault. IsTold means s (calls ++ pending f turns) (refused fault) t)
+    → IfErr r (λ fault. IsEmitted means s (calls ++ pending f turns) (refused fault) t)
 leaf_err means f s t call calls turns (Ok v) e m = tt
 leaf_err means f s t call calls turns (Err fault) e m =
-    subst (λ l. IsTold means s l (refused fault) t) (sym (ap (λ l. l ++ pending f turns) e))
+    subst (λ l. IsEmitted means s l (refused fault) t) (sym (ap (λ l. l ++ pending f turns) e))
     (cut s t call (pending f turns) fault m)
 
 -- the calls of a node by its kind
@@ -95,20 +94,20 @@ element_ready f node ns turns forest is e ready =
 -- a walk that goes on: what emits the calls that are left emits all
 pub record IsGoing {S : Type 0} (means : S → Call → Reply → S → Type 0) (f : Forest) (first : S) (calls : List Call)
     (now : S) (turns : List Turn) : Type 0 where
-  pub told : (reply : Reply) (u : S) → IsTold means now (pending f turns) reply u → IsTold means first calls reply u
+  pub emitted : (reply : Reply) (u : S) → IsEmitted means now (pending f turns) reply u → IsEmitted means first calls reply u
   pub ready : AreReady f turns
 
 pub going_first : {S : Type 0} (means : S → Call → Reply → S → Type 0) (f : Forest) (s : S) (turns : List Turn)
     → AreReady f turns → IsGoing means f s (pending f turns) s turns
-going_first means f s turns ready = record { told = λ reply u h. h; ready = ready }
+going_first means f s turns ready = record { emitted = λ reply u h. h; ready = ready }
 
 -- with a turn taken off
 pub going_popped : {S : Type 0} (means : S → Call → Reply → S → Type 0) (f : Forest) (first now : S)
     (calls : List Call) (turns rest : List Turn) (turn : Turn) → turns ≡ rest ++ turn ∷ []
     → IsGoing means f first calls now turns → (reply : Reply) (u : S)
-    → IsTold means now (calls_of_turn f turn ++ pending f rest) reply u → IsTold means first calls reply u
+    → IsEmitted means now (calls_of_turn f turn ++ pending f rest) reply u → IsEmitted means first calls reply u
 going_popped means f first now calls turns rest turn e going reply u h =
-    going.told reply u (subst (λ l. IsTold means now l reply u)
+    going.emitted reply u (subst (λ l. IsEmitted means now l reply u)
     (sym (ap (λ l. pending f l) e ∙ pending-push f rest turn [])) h)
 
 pub going_ready : {S : Type 0} (means : S → Call → Reply → S → Type 0) (f : Forest) (first now : S)
@@ -122,7 +121,7 @@ pub going_on : {S : Type 0} (means : S → Call → Reply → S → Type 0) (f :
     → IsGoing means f first calls now turns
     → IsStep means f now (calls_of_turn f turn ++ pending f rest) later new → IsGoing means f first calls later new
 going_on means f first now later calls turns rest new turn e going step = record {
-  told = λ reply u h. going_popped means f first now calls turns rest turn e going reply u (step.told reply u h);
+  emitted = λ reply u h. going_popped means f first now calls turns rest turn e going reply u (step.emitted reply u h);
   ready = step.ready;
 }
 
@@ -136,38 +135,38 @@ going_falls means f now later turns rest new turn e step =
 
 pub going_done : {S : Type 0} (means : S → Call → Reply → S → Type 0) (f : Forest) (first now : S)
     (calls : List Call) (turns : List Turn) → turns ≡ [] → IsGoing means f first calls now turns
-    → IsTold means first calls done now
+    → IsEmitted means first calls done now
 going_done means f first now calls turns e going =
-    going.told done now (subst (λ l. IsTold means now (pending f l) done now) (sym e) (all now))
+    going.emitted done now (subst (λ l. IsEmitted means now (pending f l) done now) (sym e) (all now))
 
 -- refusals
 pub cut_err : {S : Type 0} {B : Type 0} (means : S → Call → Reply → S → Type 0) (s t : S) (call : Call)
     (calls rest : List Call) (x : SerializeFault) (q : Result B SerializeFault) → calls ≡ call ∷ rest
     → means s call (refused x) t → IsErrAnd q (λ e. e ≡ x)
-    → IfErr q (λ fault. IsTold means s calls (refused fault) t)
+    → IfErr q (λ fault. IsEmitted means s calls (refused fault) t)
 cut_err means s t call calls rest x (Ok v) e m h = tt
 cut_err means s t call calls rest x (Err y) e m h =
-    subst (λ l. IsTold means s l (refused y) t) (sym e)
+    subst (λ l. IsEmitted means s l (refused y) t) (sym e)
     (cut s t call rest y (subst (λ z. means s call (refused z) t) (sym h) m))
 
 pub memory_err : {S : Type 0} {B : Type 0} (means : S → Call → Reply → S → Type 0) (s t : S) (call : Call)
     (calls rest : List Call) (q : Result B SerializeFault) → calls ≡ call ∷ rest → means s call done t
-    → IsErrAnd q (λ e. e ≡ Memory) → IfErr q (λ fault. IsTold means s calls (refused fault) t)
+    → IsErrAnd q (λ e. e ≡ Memory) → IfErr q (λ fault. IsEmitted means s calls (refused fault) t)
 memory_err means s t call calls rest (Ok v) e m h = tt
 memory_err means s t call calls rest (Err y) e m h =
-    subst (λ z. IsTold means s calls (refused z) t) (sym h)
-    (subst (λ l. IsTold means s l (refused Memory) t) (sym e)
+    subst (λ z. IsEmitted means s calls (refused z) t) (sym h)
+    (subst (λ l. IsEmitted means s l (refused Memory) t) (sym e)
     (further s t call rest (refused Memory) t m (out_of_memory t rest)))
 
 pub reply_err : {S : Type 0} {B : Type 0} (means : S → Call → Reply → S → Type 0) (s t : S) (calls : List Call)
-    (x : SerializeFault) (q : Result B SerializeFault) → IsTold means s calls (refused x) t
-    → IsErrAnd q (λ e. e ≡ x) → IsTold means s calls (reply_of q) t
-reply_err means s t calls x (Ok v) told h = absurd h
-reply_err means s t calls x (Err y) told h = subst (λ z. IsTold means s calls (refused z) t) (sym h) told
+    (x : SerializeFault) (q : Result B SerializeFault) → IsEmitted means s calls (refused x) t
+    → IsErrAnd q (λ e. e ≡ x) → IsEmitted means s calls (reply_of q) t
+reply_err means s t calls x (Ok v) emitted h = absurd h
+reply_err means s t calls x (Err y) emitted h = subst (λ z. IsEmitted means s calls (refused z) t) (sym h) emitted
 
-pub nothing_told : {S : Type 0} {B : Type 0} (means : S → Call → Reply → S → Type 0) (s : S) (calls : List Call)
-    (q : Result B SerializeFault) → IsErrAnd q (λ e. e ≡ Memory) → IsTold means s calls (reply_of q) s
-nothing_told means s calls q h = reply_err means s s calls Memory q (out_of_memory s calls) h
+pub nothing_emitted : {S : Type 0} {B : Type 0} (means : S → Call → Reply → S → Type 0) (s : S) (calls : List Call)
+    (q : Result B SerializeFault) → IsErrAnd q (λ e. e ≡ Memory) → IsEmitted means s calls (reply_of q) s
+nothing_emitted means s calls q h = reply_err means s s calls Memory q (out_of_memory s calls) h
 
 -- calls that are the same
 pub step_of : {S : Type 0} {A : Type 0} (means : S → Call → Reply → S → Type 0) (f : Forest) (s t : S)
@@ -178,29 +177,29 @@ step_of means f s t calls other turns r e h =
 
 pub cut_of : {S : Type 0} {A : Type 0} (means : S → Call → Reply → S → Type 0) (s t : S) (calls other : List Call)
     (r : Result A SerializeFault) → other ≡ calls
-    → IfErr r (λ fault. IsTold means s calls (refused fault) t)
-    → IfErr r (λ fault. IsTold means s other (refused fault) t)
+    → IfErr r (λ fault. IsEmitted means s calls (refused fault) t)
+    → IfErr r (λ fault. IsEmitted means s other (refused fault) t)
 cut_of means s t calls other r e h =
-    subst (λ l. IfErr r (λ fault. IsTold means s l (refused fault) t)) (sym e) h
+    subst (λ l. IfErr r (λ fault. IsEmitted means s l (refused fault) t)) (sym e) h
 
 pub none_err : {S : Type 0} {B : Type 0} (means : S → Call → Reply → S → Type 0) (s : S) (calls : List Call)
     (q : Result B SerializeFault) → IsErrAnd q (λ e. e ≡ Memory)
-    → IfErr q (λ fault. IsTold means s calls (refused fault) s)
+    → IfErr q (λ fault. IsEmitted means s calls (refused fault) s)
 none_err means s calls (Ok v) h = tt
 none_err means s calls (Err y) h =
-    subst (λ z. IsTold means s calls (refused z) s) (sym h) (out_of_memory s calls)
+    subst (λ z. IsEmitted means s calls (refused z) s) (sym h) (out_of_memory s calls)
 
 -- the beginning of an element
-abbrev pub behind_start : Forest → ℕ → List Call → List Call
-behind_start f n later = (joined (calls_within (nodes f) f) (inner_of n f) ++ finish (name_of n f) ∷ []) ++ later
+abbrev pub after_start : Forest → ℕ → List Call → List Call
+after_start f n later = (joined (calls_within (nodes f) f) (inner_of n f) ++ finish (name_of n f) ∷ []) ++ later
 
 pub begun : (f : Forest) (n : ℕ) (name : QualName) (attributes : List Attribute) (later : List Call) → Law f
     → IsElement n f → name ≡ name_of n f → attributes ≡ attributes_of n f
-    → calls_within (nodes f) f n ++ later ≡ start name attributes ∷ behind_start f n later
+    → calls_within (nodes f) f n ++ later ≡ start name attributes ∷ after_start f n later
 begun f n name attributes later law is same same_attributes =
     ap (λ l. l ++ later) (law n ∙ element_by (kind_at n f) (joined (calls_within (nodes f) f) (inner_of n f)) is)
-    ∙ (ap (λ x. start x (attributes_of n f) ∷ behind_start f n later) (sym same)
-    ∙ ap (λ x. start name x ∷ behind_start f n later) (sym same_attributes))
+    ∙ (ap (λ x. start x (attributes_of n f) ∷ after_start f n later) (sym same)
+    ∙ ap (λ x. start name x ∷ after_start f n later) (sym same_attributes))
 
 pub begin_step : {S : Type 0} (means : S → Call → Reply → S → Type 0) (f : Forest) (s t : S) (node : Handle)
     (name : QualName) (attributes : List Attribute) (ns : List ℕ) (turns pushed new : List Turn) → Law f

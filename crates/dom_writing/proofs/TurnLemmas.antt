@@ -1,6 +1,6 @@
 -- Turns that are put before others.
-use Rattle.std.proofs.Common.{◌≡◌, ℕ, inl, inr, List, [], ◌∷◌, ◌++◌, refl, sym, ap, subst, ◌∙◌}
-use Rattle.std.proofs.Common.{append_assoc, append-nil, take, ◌-◌}
+use Rattle.std.proofs.Common.{◌≡◌, [], ◌∷◌, ◌++◌, ◌∙◌, ◌-◌, List, ap, append-nil, append_assoc, inl, inr, refl, subst}
+use Rattle.std.proofs.Common.{sym, take, ℕ}
 use Rattle.tree_forest.specs.Forest.{Forest, nodes}
 use Rattle.tree_forest.specs.Orders.{IsDocument, IsIn}
 use Rattle.html_render_dom.specs.Numbers.{handle_of, number_of}

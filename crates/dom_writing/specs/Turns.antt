@@ -1,7 +1,7 @@
 -- What is still to be emitted of a forest, the last turn first.
 use Rattle.std.specs.Prelude.{ℕ, Bool, true, false, List, [], ◌∷◌, ◌++◌}
-use Rattle.tree_forest.specs.Forest.{Forest, IsElement, Kind, comment, doctype, document, element, instruction}
-use Rattle.tree_forest.specs.Forest.{name_of, nodes, text}
+use Rattle.tree_forest.specs.Forest.{Forest, IsElement, Kind, comment, doctype, document, element, instruction, name_of}
+use Rattle.tree_forest.specs.Forest.{nodes, text}
 use Rattle.tree_forest.specs.Orders.{IsDocument, IsIn}
 use Rattle.html_render_dom.specs.ChildNodes.{children_left}
 use Rattle.html_render_dom.specs.Numbers.{handle_of, number_of}

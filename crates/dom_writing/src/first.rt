@@ -9,8 +9,8 @@ use crate::inner::{inner, stands_for_document};
 use crate::turn::Turn;
 use crate::visits::push_visits;
 use html_render_dom::{Handle, RcDom};
-use tree_serializer::{TraversalScope, a_walk_goes_one_step_on};
 use std::alloc::{AllocError, Global};
+use tree_serializer::{TraversalScope, a_walk_goes_one_step_on};
 
 // what is to be emitted of a node
 pub(crate) fn first_turns<'a>(

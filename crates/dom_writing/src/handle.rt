@@ -1,11 +1,11 @@
 //! A node of a tree in memory.
 ghost use Rattle.std.specs.Prelude.{◌≡◌};
 
+use crate::emitting::emit_all;
 use crate::first::first_turns;
-use crate::telling::tell_all;
 use html_render_dom::{Handle, RcDom};
-use tree_serializer::{Serialize, SerializeFault, Serializer, TraversalScope};
 use std::alloc::Global;
+use tree_serializer::{Serialize, SerializeFault, Serializer, TraversalScope};
 
 /// A tree with one of its nodes, which can be emitted to a serializer (WHATWG HTML, 13.3).
 #[derive(Drop)]
@@ -39,6 +39,6 @@ impl Serialize for SerializableHandle<'_> {
     ) -> Result<(), SerializeFault> {
         self.dom.document();
         let mut turns = first_turns(alloc, self.dom, self.node, scope)?;
-        tell_all(self.dom, &mut turns, serializer)
+        emit_all(self.dom, &mut turns, serializer)
     }
 }

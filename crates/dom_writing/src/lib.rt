@@ -35,13 +35,13 @@
 
 mod coming;
 mod dump;
+mod emitting;
 mod first;
 mod handle;
 mod inner;
 mod laws;
 mod lines;
 mod shown;
-mod telling;
 mod turn;
 mod visits;
 mod whole_dom;

@@ -25,7 +25,7 @@ fn next_escape(text: &str) -> Option<(&str, &'static str, &str)>
         (λ r. shown (chars text.now) ≡ chars r.0.now ++ (chars r.1.now ++ shown (chars r.2.now))) }
     ensures run { IfSome result (λ r. IsUtf8 r.0.now) }
     ensures escape { IfSome result (λ r. IsUtf8 r.1.now) }
-    ensures behind { IfSome result (λ r. IsUtf8 r.2.now) }
+    ensures trailing { IfSome result (λ r. IsUtf8 r.2.now) }
     ensures shorter { IfSome result (λ r. length r.2.now < length text.now) }
 {
     let at = text.find(['\n', '\\'])?;
@@ -40,10 +40,10 @@ pub(crate) fn push_shown(lines: &mut Text, text: &str) -> Result<(), AllocError>
     ensures { OnOk result (lines.new ≡ lines.old ++ shown (chars text.now)) }
 {
     let mut rest = text;
-    'runs: while let Some((run, escape, behind)) = next_escape(rest) {
+    'runs: while let Some((run, escape, trailing)) = next_escape(rest) {
         lines.push_str(run)?;
         lines.push_str(escape)?;
-        rest = behind;
+        rest = trailing;
     }
     lines.push_str(rest)
 }

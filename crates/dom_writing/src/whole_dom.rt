@@ -8,8 +8,8 @@ ghost use Rattle.tree_serializer.specs.declared.options.TraversalScope.TheVarian
 use crate::handle::SerializableHandle;
 use html_lexemes::ByteWriter;
 use html_render_dom::RcDom;
-use tree_serializer::{SerializeFault, SerializeOpts, serialize};
 use std::alloc::Global;
+use tree_serializer::{SerializeFault, SerializeOpts, serialize};
 
 /// Trees that are written whole.
 pub trait SerializeDom {

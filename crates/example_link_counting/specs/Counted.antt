@@ -2,8 +2,8 @@
 use Rattle.std.specs.Prelude.{◌≡◌, ℕ, ◌+◌, List, ◌++◌, codes, refl}
 use Rattle.std.specs.Fmt.{decimal}
 use Rattle.std.proofs.Common.{sym, ◌∙◌}
-use Rattle.text_decorators.specs.Marks.{Mark, IsPrefix, IsSteady, link_start, link_end, header, quote, unordered_item}
-use Rattle.text_decorators.specs.Marks.{ordered_item}
+use Rattle.text_decorators.specs.Marks.{IsPrefix, IsSteady, Mark, header, link_end, link_start, ordered_item, quote}
+use Rattle.text_decorators.specs.Marks.{unordered_item}
 use Rattle.text_decorators.specs.Texts.{plain_text}
 use Rattle.text_decorators.specs.Steady.{plain_is_steady}
 use Rattle.example_link_counting.specs.declared.link_note.LinkNote.{LinkNote}
@@ -18,9 +18,9 @@ abbrev pub note_at : ℕ → Mark → LinkNote
 note_at links (link_start target) = Link (links + 1)
 note_at links _ = Outside
 
-abbrev pub links_behind : ℕ → Mark → ℕ
-links_behind links (link_start target) = links + 1
-links_behind links _ = links
+abbrev pub links_after : ℕ → Mark → ℕ
+links_after links (link_start target) = links + 1
+links_after links _ = links
 
 pub notes_are_one : (links : ℕ) (m : Mark) (a b : LinkNote) → a ≡ note_at links m → b ≡ note_at links m → a ≡ b
 notes_are_one links m a b first second = first ∙ sym second

@@ -1,12 +1,16 @@
 ghost use Rattle.std.specs.Prelude.{◌≡◌, ℕ, false};
-ghost use Rattle.example_link_counting.specs.Counted.{counter_text, note_at, links_behind, notes_are_one, counter_is_steady};
+ghost use Rattle.example_link_counting.specs.Counted.{counter_text, note_at, links_after, notes_are_one};
+ghost use Rattle.example_link_counting.specs.Counted.{counter_is_steady};
 ghost use Rattle.example_link_counting.specs.declared.link_note.LinkNote.TheVariants.{Outside};
 ghost use Rattle.text_decorators.specs.Texts.{footnote_lines};
 
 use crate::link_note::LinkNote;
 use std::alloc::{AllocError, Global};
+use text_decorators::{
+    Colour, PlainDecorator, SteadyPrefixes, TextDecorator, footnotes, superscript_end,
+    superscript_start,
+};
 use text_lines::TaggedLine;
-use text_decorators::{Colour, PlainDecorator, SteadyPrefixes, TextDecorator, footnotes, superscript_end, superscript_start};
 
 /// Counts links: it writes and notes a link's number at the link, and marks the rest as plain text does.
 #[derive(Clone, Drop)]
@@ -33,7 +37,7 @@ impl TextDecorator for LinkCounter {
       text = counter_text;
       gives = λ links m note. note ≡ note_at links m;
       marks = λ _ _. false;
-      after = links_behind;
+      after = links_after;
       pops = λ _ _. false;
       sub = λ links. links;
       closes = λ _ targets. footnote_lines Outside targets;

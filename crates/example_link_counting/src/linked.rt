@@ -1,5 +1,5 @@
 ghost use Rattle.std.specs.Prelude.{◌≡◌, chars, string_bytes, IfOk, OnOk};
-ghost use Rattle.example_link_counting.specs.Linked.{linked, behind_link};
+ghost use Rattle.example_link_counting.specs.Linked.{linked, after_link};
 
 use std::alloc::{AllocError, Global};
 use text_decorators::TextDecorator;
@@ -13,7 +13,7 @@ pub fn link<D: TextDecorator>(
 ) -> Result<String, AllocError>
     ensures text { IfOk result (λ s. chars (string_bytes s) ≡ linked D.view.text D.view.after
         (D.view.held decorator.old) (chars url.now) (chars label.now)) }
-    ensures after { OnOk result (D.view.held decorator.new ≡ behind_link D.view.after (D.view.held decorator.old)
+    ensures after { OnOk result (D.view.held decorator.new ≡ after_link D.view.after (D.view.held decorator.old)
         (chars url.now)) }
 {
     let (mut text, _) = decorator.decorate_link_start(alloc, url)?;
@@ -34,8 +34,8 @@ pub fn two_links<D: TextDecorator>(
     ensures first { IfOk result (λ r. chars (string_bytes r.0) ≡ linked D.view.text D.view.after
         (D.view.held decorator.old) (chars url.now) (chars label.now)) }
     ensures second { IfOk result (λ r. chars (string_bytes r.1) ≡ linked D.view.text D.view.after
-        (behind_link D.view.after (D.view.held decorator.old) (chars url.now)) (chars url.now) (chars label.now)) }
-    ensures after { OnOk result (D.view.held decorator.new ≡ behind_link D.view.after (behind_link D.view.after
+        (after_link D.view.after (D.view.held decorator.old) (chars url.now)) (chars url.now) (chars label.now)) }
+    ensures after { OnOk result (D.view.held decorator.new ≡ after_link D.view.after (after_link D.view.after
         (D.view.held decorator.old) (chars url.now)) (chars url.now)) }
 {
     let first = link(alloc, decorator, url, label)?;

@@ -30,20 +30,20 @@ EndsBy IsText Narrow Nothing most bytes read_failed write_failed flushed before 
 
 -- What is asked for was written and passed on, or why it was not, and what was reported of that.
 abbrev pub IsAnswered : Asked → Files → Bytes → (read_failed write_failed flushed : Bool) → (before after : ℕ)
-    → (old new : Bytes) → (Unread Untouched Silent : Type 0) → (Told : List ℕ → Type 0) → Outcome → Type 0
-IsAnswered asked files input read_failed write_failed flushed before after old new Unread Untouched Silent Told
+    → (old new : Bytes) → (Unread Untouched Silent : Type 0) → (Emitted : List ℕ → Type 0) → Outcome → Type 0
+IsAnswered asked files input read_failed write_failed flushed before after old new Unread Untouched Silent Emitted
     outcomes.Done =
     ShowsPage asked files input old new × (write_failed ≡ false) × (flushed ≡ true) × Silent
-IsAnswered asked files input read_failed write_failed flushed before after old new Unread Untouched Silent Told
+IsAnswered asked files input read_failed write_failed flushed before after old new Unread Untouched Silent Emitted
     (outcomes.Page error) =
-    Told (error_text error) × IsRefusal asked files input (read_failed || write_failed) before after error
+    Emitted (error_text error) × IsRefusal asked files input (read_failed || write_failed) before after error
     × (Untouched ⊎ ((write_failed ≡ true) × ShowsPart asked files input old new))
-IsAnswered asked files input read_failed write_failed flushed before after old new Unread Untouched Silent Told
+IsAnswered asked files input read_failed write_failed flushed before after old new Unread Untouched Silent Emitted
     outcomes.NotOpened =
-    Told (error_text errors.IoError) × Untouched × ((name : List ℕ) × (asked.file ≡ Some name))
-IsAnswered asked files input read_failed write_failed flushed before after old new Unread Untouched Silent Told
+    Emitted (error_text errors.IoError) × Untouched × ((name : List ℕ) × (asked.file ≡ Some name))
+IsAnswered asked files input read_failed write_failed flushed before after old new Unread Untouched Silent Emitted
     outcomes.Table =
-    ((fault : TableFault) × Told (fault_text fault) × IsTableRefusal files asked.references fault)
+    ((fault : TableFault) × Emitted (fault_text fault) × IsTableRefusal files asked.references fault)
     × Unread × Untouched
-IsAnswered asked files input read_failed write_failed flushed before after old new Unread Untouched Silent Told
+IsAnswered asked files input read_failed write_failed flushed before after old new Unread Untouched Silent Emitted
     outcomes.Words = ⊥

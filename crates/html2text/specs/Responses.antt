@@ -1,6 +1,6 @@
 -- What the program answers to a command line: what its writers gain, and its exit status.
-use Rattle.std.specs.Prelude.{◌≡◌, ℕ, ◌+◌, ◌<◌, ◌⊎◌, Bool, true, List, length}
-use Rattle.std.specs.Prelude.{◌++◌, Option, Some, None, Result, Ok, Err, IfSome, codes, string_bytes, ⊤}
+use Rattle.std.specs.Prelude.{◌≡◌, ◌+◌, ◌<◌, ◌⊎◌, ◌++◌, ⊤, Bool, Err, IfSome, List, None, Ok, Option, Result, Some}
+use Rattle.std.specs.Prelude.{codes, length, string_bytes, true, ℕ}
 use Rattle.std.specs.Io.KnownBytes.{Appends}
 use Rattle.command_line.specs.CommandWords.{Asked, Asks, AsksHelp}
 use Rattle.command_line.specs.Requests.{asked_of}
@@ -32,12 +32,12 @@ abbrev pub complaint : List ℕ → List ℕ
 complaint text = codes "html2text: " ++ (text ++ newline)
 
 -- known bytes grow by these, or by a beginning of them where their writer has failed
-abbrev pub Tells : Bool → Bytes → Bytes → List ℕ → Type 0
-Tells failed old new bytes = Appends old new bytes ⊎ ((failed ≡ true) × AppendsPart old new bytes)
+abbrev pub Emits : Bool → Bytes → Bytes → List ℕ → Type 0
+Emits failed old new bytes = Appends old new bytes ⊎ ((failed ≡ true) × AppendsPart old new bytes)
 
 -- the same, of a fault with this text
 abbrev pub Complains : Bool → Bytes → Bytes → List ℕ → Type 0
-Complains failed old new text = Tells failed old new (complaint text)
+Complains failed old new text = Emits failed old new (complaint text)
 
 -- The page is that of the file that is named, or of standard input.
 abbrev pub page_bytes : Files → Bytes → Option (List ℕ) → Bytes

@@ -1,6 +1,6 @@
 -- What a writer has of a page.
-use Rattle.std.specs.Prelude.{◌≡◌, ℕ, ◌≤◌, Bool, true, false, not, ◌&&◌, ◌||◌, List, [], Option}
-use Rattle.std.specs.Prelude.{chars, if◌then◌else◌, length, map, unwrap_or}
+use Rattle.std.specs.Prelude.{◌≡◌, ◌≤◌, ◌&&◌, ◌||◌, [], if◌then◌else◌, Bool, List, Option, chars, false, length, map}
+use Rattle.std.specs.Prelude.{not, true, unwrap_or, ℕ}
 use Rattle.std.specs.Io.KnownBytes.{Appends}
 use Rattle.std.specs.Str.{IsUtf8}
 use Rattle.command_line.specs.CommandWords.{Asked}

@@ -4,7 +4,7 @@ ghost use Rattle.std.specs.Prelude.{◌≡◌, true, false};
 ghost use Rattle.command_line.specs.Requests.{asked_of};
 ghost use Rattle.html2text.specs.Endings.{EndsBy};
 ghost use Rattle.html2text.specs.Written.{HasAskedText, IsOtherPage, IsTooNarrowPage, most_bytes};
-ghost use Rattle.page_config.specs.PageAnswers.{Answers, IsTold, fail, too_narrow};
+ghost use Rattle.page_config.specs.PageAnswers.{Answers, IsEmitted, fail, too_narrow};
 ghost use Rattle.page_config.specs.Settings.{max_bytes_of, page_setting};
 
 use crate::writing::run;
@@ -106,7 +106,7 @@ fn write_by<R: ByteReader, W: ByteWriter, D: TextDecorator + Drop>(
     config: Config<D>,
     width: usize,
 ) -> Result<(), Error>
-    ensures { EndsBy (IsTold D.Annotation.seen D.view (page_setting D.view config) width)
+    ensures { EndsBy (IsEmitted D.Annotation.seen D.view (page_setting D.view config) width)
         (λ bytes. Answers D.Annotation.seen D.view (page_setting D.view config) width bytes too_narrow)
         (λ bytes. Answers D.Annotation.seen D.view (page_setting D.view config) width bytes fail) (max_bytes_of config)
         (R.remaining input.old) (R.has_failed input.new) (W.has_failed output.new) (W.was_flushed output.new)

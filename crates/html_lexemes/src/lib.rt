@@ -48,8 +48,11 @@ pub mod states;
 mod token;
 
 pub use attributes::Attributes;
-pub use lex_base::{ByteReader, ByteWriter, Device, DeviceFault, KnownName, NamedReference, ReferenceTable, TableError, Text, known_of};
 pub use fault::ParseFault;
+pub use lex_base::{
+    ByteReader, ByteWriter, Device, DeviceFault, KnownName, NamedReference, ReferenceTable,
+    TableError, Text, known_of,
+};
 pub use names::{Attribute, LocalName, Namespace, QualName};
 pub use queue::{BufferQueue, SetResult};
 pub use token::{Doctype, ErrorMessage, ProcessResult, Tag, TagKind, Token, TokenSinkResult};

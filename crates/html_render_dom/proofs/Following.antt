@@ -1,6 +1,6 @@
 -- Links that are followed to the end, one step at a time.
-use Rattle.std.proofs.Common.{◌≡◌, ℕ, ◌<◌, ◌≤◌, ◌⊎◌, inl, inr, zero, suc, List, ◌∷◌, Option, None, Some, length}
-use Rattle.std.proofs.Common.{refl, sym, ap, ◌∙◌, subst, arith, slice_set}
+use Rattle.std.proofs.Common.{◌≡◌, ◌<◌, ◌≤◌, ◌⊎◌, ◌∷◌, ◌∙◌, List, None, Option, Some, ap, arith, inl, inr, length, refl}
+use Rattle.std.proofs.Common.{slice_set, subst, suc, sym, zero, ℕ}
 use Rattle.std.proofs.lemmas.Bool.{cases_eq}
 use Rattle.std.proofs.lemmas.List.{get_or-set_same, get_or-set_other, length-set}
 use Rattle.tree_forest.specs.Orders.{IsIn}

@@ -1,7 +1,6 @@
 -- What a write to one node leaves of all nodes.
-use Rattle.std.proofs.Common.{◌≡◌, ℕ, ◌<◌, Bool, false, List, [], ◌∷◌, Option, map, length}
-use Rattle.std.proofs.Common.{slice_index_or, slice_set, option_map, is_some, refl, sym, ap, ◌∙◌, zero}
-use Rattle.std.proofs.Common.{suc, arith}
+use Rattle.std.proofs.Common.{◌≡◌, ◌<◌, [], ◌∷◌, ◌∙◌, Bool, List, Option, ap, arith, false, is_some, length, map}
+use Rattle.std.proofs.Common.{option_map, refl, slice_index_or, slice_set, suc, sym, zero, ℕ}
 use Rattle.std.proofs.Math.Seq.{map-set_same}
 use Rattle.html_lexemes.specs.declared.names.Attribute.{Attribute}
 use Rattle.html_lexemes.specs.declared.names.QualName.{QualName}

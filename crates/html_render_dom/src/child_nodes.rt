@@ -44,7 +44,7 @@ impl Nodes {
         requires holds { Holds (number_of target) (forest_of self.now) }
         ensures { children_left result ≡ children_at (number_of target) (forest_of self.now) }
     {
-        let front = self.child_behind(target, None);
+        let front = self.child_after(target, None);
         let back = self.child_before(target, None);
         ChildNodes {
             nodes: self,

@@ -54,6 +54,6 @@ mod styles;
 
 pub use child_nodes::ChildNodes;
 pub use dom::RcDom;
-pub use tree_forest;
-pub use node::{Handle, NodeData};
 pub use dom_styles;
+pub use node::{Handle, NodeData};
+pub use tree_forest;

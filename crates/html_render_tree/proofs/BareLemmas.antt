@@ -1,6 +1,6 @@
 -- A page whose renderers keep no annotations is that of renderers that keep them, but for these.
-use Rattle.std.proofs.Common.{◌≡◌, ℕ, List, [], ◌∷◌, ◌++◌, Option, None, Some, map, sym, ap, ◌∙◌, refl, subst, false}
-use Rattle.std.proofs.Common.{◌⊎◌, inl, inr}
+use Rattle.std.proofs.Common.{◌≡◌, [], ◌∷◌, ◌++◌, ◌∙◌, ◌⊎◌, List, None, Option, Some, ap, false, inl, inr, map, refl}
+use Rattle.std.proofs.Common.{subst, sym, ℕ}
 use Rattle.std.specs.Option.{option_and_then, option_map}
 use Rattle.block_renderer.specs.Footnotes.{add_footnotes}
 use Rattle.block_trait.specs.Bare.{bare_of, no_tag}

@@ -1,6 +1,6 @@
 -- Lines of a page, and those after it.
-use Rattle.std.proofs.Common.{◌≡◌, ℕ, List, Option, [], ◌∷◌, ◌++◌, append-nil, append_assoc, ap, arith, length}
-use Rattle.std.proofs.Common.{Err, IfOk, Ok, Result, map, refl, subst, sym, ◌∙◌}
+use Rattle.std.proofs.Common.{◌≡◌, [], ◌∷◌, ◌++◌, ◌∙◌, Err, IfOk, List, Ok, Option, Result, ap, append-nil}
+use Rattle.std.proofs.Common.{append_assoc, arith, length, map, refl, subst, sym, ℕ}
 use Rattle.std.specs.Prelude.{if◌then◌else◌}
 use Rattle.std.proofs.lemmas.List.{map-append}
 use Rattle.std.specs.Option.{option_and_then}

@@ -1,7 +1,7 @@
 -- Rules of style that are seen alike: of them only what they declare counts.
 use std.Path.{fun_ext}
-use Rattle.std.proofs.Common.{◌≡◌, ℕ, ◌&&◌, Bool, true, false, List, [], ◌∷◌, ◌++◌, map, refl, sym, ap, ◌∙◌}
-use Rattle.std.proofs.Common.{if◌then◌else◌}
+use Rattle.std.proofs.Common.{◌≡◌, ◌&&◌, [], ◌∷◌, ◌++◌, ◌∙◌, if◌then◌else◌, Bool, List, ap, false, map, refl, sym, true}
+use Rattle.std.proofs.Common.{ℕ}
 use Rattle.std.specs.Prelude.{bytes_eq, filter, flat_map, is_some, option_map}
 use Rattle.tree_forest.specs.Trees.{trees}
 use Rattle.tree_forest.specs.Forest.{Forest}

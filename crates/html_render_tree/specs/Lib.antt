@@ -6,7 +6,7 @@ pub mod RichText
 pub mod Settings
 pub use Rattle.layout_laws.specs.WalkLaws
 pub use Rattle.layout_state.specs.Begins
-pub use Rattle.layout_state.specs.Laying
+pub use Rattle.layout_state.specs.LayoutState
 pub use Rattle.layout_state.specs.declared.around.Around
 pub use Rattle.layout_values.specs.Lay
 pub use Rattle.text_block_renderer.specs.Parts

@@ -1,8 +1,7 @@
 //! What stands after a page's last value, and its lines.
 ghost use Rattle.std.specs.Prelude.{◌≡◌, [], Err, IfOk, None, OnOk, Some, if◌then◌else◌, map};
 ghost use Rattle.block_renderer.specs.Seen.{Comes, Fails, IsTagging, marking, sub_of, tags_seen};
-ghost use Rattle.html_render_tree.specs.PageLines.{noted, renderer_lines, with_notes};
-ghost use Rattle.html_render_tree.specs.PageLines.{with_targets};
+ghost use Rattle.html_render_tree.specs.PageLines.{noted, renderer_lines, with_notes, with_targets};
 ghost use Rattle.text_footnotes.specs.Links.{all_targets};
 ghost use Rattle.text_footnotes.specs.Targets.{noted_targets};
 ghost use Rattle.block_trait.specs.Renderers.{lines_of_sub};
@@ -13,15 +12,15 @@ ghost use Rattle.text_block_renderer.specs.SeenParts.{parts_of};
 ghost use Rattle.text_borders.specs.Lines.{line_shown, render_line_of};
 ghost use Rattle.text_pieces.specs.declared.fault.BlockError.TheVariants as errors;
 
-use text_borders::RenderLine;
-use block_trait::Renderer;
 use block_renderer::SubRenderer;
-use text_footnotes::LinkTargets;
+use block_trait::Renderer;
 use std::alloc::{AllocError, Global};
-use text_lines::TaggedLine;
-use text_decorators::TextDecorator;
-use text_pieces::BlockError;
 use text_block_renderer::TextRenderer;
+use text_borders::RenderLine;
+use text_decorators::TextDecorator;
+use text_footnotes::LinkTargets;
+use text_lines::TaggedLine;
+use text_pieces::BlockError;
 
 // lines after the page, as a block of their own
 fn add_notes<D: TextDecorator + Drop>(

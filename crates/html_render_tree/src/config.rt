@@ -1,6 +1,6 @@
 //! How pages are rendered.
-ghost use Rattle.std.specs.Prelude.{◌≡◌, ◌≢◌, ◌⊎◌, ◌<◌, ◌≤◌, ◌++◌, [], Err};
-ghost use Rattle.std.specs.Prelude.{IfErr, IfOk, None, Some, chars, map, string_bytes, true, false};
+ghost use Rattle.std.specs.Prelude.{◌≡◌, ◌≢◌, ◌⊎◌, ◌<◌, ◌≤◌, ◌++◌, [], Err, IfErr, IfOk, None, Some, chars, false, map};
+ghost use Rattle.std.specs.Prelude.{string_bytes, true};
 
 use crate::closing::{closed_page, lines_of};
 use crate::laws::{
@@ -9,18 +9,18 @@ use crate::laws::{
 };
 use crate::rendering::{laid, refusal};
 use crate::rules::joined;
+use block_laws::annotations_change_no_text;
 use block_renderer::SubRenderer;
+use block_trait::{ImageRenderMode, RenderOptions};
+use dom_styles::StyleRule;
 use html_render_dom::RcDom;
+use layout_laws::annotations_change_no_page;
 use render_conversion::{RenderError, decorating_rules};
 use render_values::RenderTree;
-use block_trait::{ImageRenderMode, RenderOptions};
 use std::alloc::Global;
-use dom_styles::StyleRule;
-use text_lines::TaggedLine;
-use text_decorators::TextDecorator;
 use text_block_renderer::TextRenderer;
-use layout_laws::annotations_change_no_page;
-use block_laws::annotations_change_no_text;
+use text_decorators::TextDecorator;
+use text_lines::TaggedLine;
 
 /// How narrow text may be wrapped where nothing else was said, in columns.
 const MIN_WRAP_WIDTH: usize = 3;

@@ -8,10 +8,10 @@ ghost use Rattle.dom_styles.specs.declared.rules.StyleRule.{StyleRule as SeenRul
 ghost use Rattle.text_decorators.specs.Marks.{Mark};
 ghost use Rattle.layout_laws.specs.WalkLaws.{AreNumbered};
 
-use text_decorators::TextDecorator;
-use text_block_renderer::{parts_keep_the_width, parts_with_room_never_refuse};
 use block_laws::{renderers_keep_the_width, renderers_with_room_never_refuse};
 use layout_laws::{values_keep_the_width, values_with_room_are_laid};
+use text_block_renderer::{parts_keep_the_width, parts_with_room_never_refuse};
+use text_decorators::TextDecorator;
 
 /// No line of a page passes its width, of two columns or more, where prefixes are steady, no part may pass it and links
 /// are wrapped: lines after its last value among them.

@@ -52,7 +52,6 @@ mod prefixes;
 mod rendering;
 mod rules;
 
-pub use table_widths::{ColumnShare, column_widths};
 pub use config::RenderConfig;
 pub use laws::{
     pages_are_numbered, pages_keep_the_width, pages_with_room_are_never_too_narrow,
@@ -60,3 +59,4 @@ pub use laws::{
 };
 pub use render_conversion::{RenderError, decorating_rules};
 pub use render_values::RenderTree;
+pub use table_widths::{ColumnShare, column_widths};

@@ -9,16 +9,16 @@ ghost use Rattle.text_block_renderer.specs.Parts.{depth_of};
 ghost use Rattle.text_block_renderer.specs.SeenParts.{parts_of};
 
 use crate::prefixes::DecoratorPrefixes;
-use block_trait::RenderOptions;
 use block_renderer::SubRenderer;
+use block_trait::RenderOptions;
+use layout_walk::lay_tree;
 use render_conversion::RenderError;
 use render_sizes::asked_extents;
 use render_values::RenderTree;
 use std::alloc::Global;
+use text_block_renderer::TextRenderer;
 use text_decorators::TextDecorator;
 use text_pieces::BlockError;
-use text_block_renderer::TextRenderer;
-use layout_walk::lay_tree;
 
 // after an allocation failure nothing is called
 pub(crate) fn refusal(error: BlockError) -> RenderError

@@ -2,8 +2,8 @@
 
 ghost use Rattle.std.specs.Prelude.{◌≡◌, ◌++◌, IfOk};
 
-use std::alloc::AllocError;
 use dom_styles::StyleRule;
+use std::alloc::AllocError;
 
 /// These rules, and then those. The error is allocation failure.
 pub(crate) fn joined(

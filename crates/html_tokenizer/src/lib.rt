@@ -9,7 +9,7 @@
 //!
 //! - `read_pieces`: for every sink that keeps the laws and is ready for the kind of text in which the page begins,
 //!   and any list of pieces: where it isn't refused, the sink is left as the reading of the whole page's text
-//!   leaves it, in the mode that the options name, and was then closed once (`told`, by `IsClosed`); it is refused
+//!   leaves it, in the mode that the options name, and was then closed once (`emitted`, by `IsClosed`); it is refused
 //!   only if allocation fails (`memory`). A list of pieces and any other cutting of it leave equal sinks, since a
 //!   text has one reading (`one_reading`)
 //! - `Tokenizer::new`: it has not failed, may be called (`fit`), has the sink, the table and the last start tag
@@ -24,7 +24,7 @@
 //!   answered by asking for it, and no item before (`asks`); then the queue is shorter, nothing is held back and no
 //!   text not emitted, and the state is one of text with nothing pending (`pauses`); and what was taken before the
 //!   last character, which is the tag's `>`, leaves a tokenizer that was asked for no pause and stands where no
-//!   lexeme is over (`behind`): so the queue has just what follows the tag
+//!   lexeme is over (`trailing`): so the queue has just what follows the tag
 //! - the same, refused: it is refused only if allocation fails, unless an earlier call was refused or the end has
 //!   come (`memory`); then it answers `Failed` (`failed`) and leaves itself and the queue as they were (`kept`). It
 //!   has failed exactly where a call was refused (`works`), may be called again whatever it answered (`fit`), and
@@ -55,7 +55,7 @@
 //!
 //! Parse errors are reported before the next thing that is emitted, unless that is text that begins with LF, which
 //! an error could change; each sink's law `IsLawful` says that an error changes nothing else, and the contracts of
-//! `tell_errors`, `tell_items` (telling.rt) and `read_text` (reader.rt) that so nothing else changes.
+//! `emit_errors`, `emit_items` (emitting.rt) and `read_text` (reader.rt) that so nothing else changes.
 //!
 //! What is not pinned, so that a wrong body would still be proved: a `feed`, `feed_on`, `end` or `read_pieces` that
 //! always answers `Memory`. Which parse errors are reported, their texts and lines, and the lines given with tokens
@@ -78,6 +78,7 @@
 //! program ends with status 1 where two ways differ.
 #![tactic(auto)]
 
+mod emitting;
 mod errors;
 mod laws;
 mod line_ends;
@@ -87,12 +88,11 @@ mod pieces;
 mod reader;
 mod results;
 mod runs;
-mod telling;
 mod tokenizer;
 
-pub use token_grammar::{TokenSink, TokenizerOpts, read_plainly};
 pub use html_lexemes;
 pub use laws::a_sink_may_change_but_for_its_state;
 pub use pieces::read_pieces;
 pub use results::TokenizerResult;
+pub use token_grammar::{TokenSink, TokenizerOpts, read_plainly};
 pub use tokenizer::Tokenizer;

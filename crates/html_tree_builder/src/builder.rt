@@ -5,12 +5,12 @@ ghost use Rattle.html_tree_builder.specs.Begun.{begun};
 ghost use Rattle.rules_actions.specs.Parsed.{state_of};
 ghost use Rattle.rules_table.specs.Welcome.{IsReady};
 
-use tree_forest::TreeSink;
 use html_lexemes::Text;
 use html_tree_state::{Construction, Held};
-use std::alloc::Global;
 use rules_actions::{Kept, Parse};
 use rules_table::{TreeBuilderOpts, actions_keep_what_is_ready};
+use std::alloc::Global;
+use tree_forest::TreeSink;
 use tree_predicates::InsertionMode;
 
 /// Builds the tree of a page in a sink of trees, from the tokens that it is given (WHATWG HTML, 13.2.6).

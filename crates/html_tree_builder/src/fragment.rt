@@ -11,14 +11,14 @@ ghost use Rattle.rules_table.specs.Settling.{Ready};
 ghost use Rattle.rules_table.specs.Welcome.{IsReady, IsWelcome};
 
 use crate::builder::TreeBuilder;
-use tree_forest::TreeSink;
 use html_lexemes::states::{RawKind, State};
 use html_lexemes::{ParseFault, QualName};
 use html_tree_state::Construction;
-use tree_names::{has_rawtext_context, has_rcdata_context, is_html};
-use std::alloc::Global;
 use rules_actions::Parse;
 use rules_table::TreeBuilderOpts;
+use std::alloc::Global;
+use tree_forest::TreeSink;
+use tree_names::{has_rawtext_context, has_rcdata_context, is_html};
 use tree_predicates::{InsertionMode, is_of_html};
 
 impl<S: TreeSink + Drop> TreeBuilder<S> {

@@ -15,15 +15,18 @@ ghost use Rattle.rules_table.specs.Settling.{meaning};
 ghost use Rattle.rules_table.specs.State.{State};
 ghost use Rattle.rules_table.specs.Welcome.{IsReady, IsWelcome};
 
+use crate::builder::TreeBuilder;
+use crate::fragment::context_state;
 use crate::options::ParseOpts;
 use crate::parser::Parser;
-use tree_forest::{TreeSink, elements_stay, how_many_nodes_there_are, making_keeps_a_forest, what_was_made_may_be_put};
 use html_lexemes::states::State as TextState;
 use html_lexemes::{Attributes, BufferQueue, ParseFault, QualName, ReferenceTable};
 use html_tokenizer::{Tokenizer, TokenizerOpts};
 use std::alloc::Global;
-use crate::builder::TreeBuilder;
-use crate::fragment::context_state;
+use tree_forest::{
+    TreeSink, elements_stay, how_many_nodes_there_are, making_keeps_a_forest,
+    what_was_made_may_be_put,
+};
 use tree_predicates::element_flags;
 
 /// A parser of a fragment, for a context that is an element of the sink (WHATWG HTML, 13.4): what is parsed stands in

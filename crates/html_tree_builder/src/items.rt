@@ -6,14 +6,14 @@ ghost use Rattle.html_lexemes.specs.declared.fault.ParseFault.TheVariants.{Memor
 ghost use Rattle.rules_actions.specs.Parsed.{state_of};
 ghost use Rattle.rules_table.specs.Settling.{Ready, reply, step};
 
-use tree_forest::TreeSink;
-use token_grammar::slices::first_and_rest;
 use html_lexemes::{Doctype, ErrorMessage, ParseFault, Tag, Text, Token, TokenSinkResult};
 use rules_actions::Parse;
 use rules_steps::{take_comment, take_doctype, take_null, take_page_end, take_tag, take_text};
+use token_grammar::slices::first_and_rest;
+use tree_forest::TreeSink;
 
 /// Characters of text. Without any nothing changes; a line feed right after some start tags is left out.
-pub(crate) fn tell_characters<S: TreeSink>(
+pub(crate) fn emit_characters<S: TreeSink>(
     page: &mut Parse<S>,
     text: Text,
 ) -> Result<(), ParseFault>
@@ -35,7 +35,7 @@ pub(crate) fn tell_characters<S: TreeSink>(
 }
 
 /// NUL.
-pub(crate) fn tell_null<S: TreeSink>(page: &mut Parse<S>) -> Result<(), ParseFault>
+pub(crate) fn emit_null<S: TreeSink>(page: &mut Parse<S>) -> Result<(), ParseFault>
     requires ready { Ready (state_of S.view page.old) }
     ensures seen { OnOk result (state_of S.view page.new ≡ step (state_of S.view page.old) null_character) }
     ensures memory { IfErr result (λ e. e ≡ Memory) }
@@ -46,7 +46,7 @@ pub(crate) fn tell_null<S: TreeSink>(page: &mut Parse<S>) -> Result<(), ParseFau
 }
 
 /// A comment.
-pub(crate) fn tell_comment<S: TreeSink>(page: &mut Parse<S>, text: Text) -> Result<(), ParseFault>
+pub(crate) fn emit_comment<S: TreeSink>(page: &mut Parse<S>, text: Text) -> Result<(), ParseFault>
     requires ready { Ready (state_of S.view page.old) }
     ensures seen { OnOk result (state_of S.view page.new ≡ step (state_of S.view page.old) (comment_item text)) }
     ensures memory { IfErr result (λ e. e ≡ Memory) }
@@ -57,7 +57,7 @@ pub(crate) fn tell_comment<S: TreeSink>(page: &mut Parse<S>, text: Text) -> Resu
 }
 
 /// A doctype.
-pub(crate) fn tell_doctype<S: TreeSink>(
+pub(crate) fn emit_doctype<S: TreeSink>(
     page: &mut Parse<S>,
     doctype: Doctype,
 ) -> Result<(), ParseFault>
@@ -71,7 +71,7 @@ pub(crate) fn tell_doctype<S: TreeSink>(
 }
 
 /// A parse error: it ends the rule of the line feed.
-pub(crate) fn tell_error<S: TreeSink>(
+pub(crate) fn emit_error<S: TreeSink>(
     page: &mut Parse<S>,
     message: ErrorMessage,
 ) -> Result<(), ParseFault>
@@ -85,7 +85,7 @@ pub(crate) fn tell_error<S: TreeSink>(
 }
 
 /// The end of the page.
-pub(crate) fn tell_end<S: TreeSink>(page: &mut Parse<S>) -> Result<(), ParseFault>
+pub(crate) fn emit_end<S: TreeSink>(page: &mut Parse<S>) -> Result<(), ParseFault>
     requires ready { Ready (state_of S.view page.old) }
     ensures seen { OnOk result (state_of S.view page.new ≡ step (state_of S.view page.old) end_of_file) }
     ensures memory { IfErr result (λ e. e ≡ Memory) }
@@ -97,7 +97,7 @@ pub(crate) fn tell_end<S: TreeSink>(page: &mut Parse<S>) -> Result<(), ParseFaul
 }
 
 /// A tag, with the answer to it. Its attributes are shared, since the tree gets copies of them.
-pub(crate) fn tell_tag<S: TreeSink>(
+pub(crate) fn emit_tag<S: TreeSink>(
     page: &mut Parse<S>,
     mut tag: Tag,
 ) -> Result<TokenSinkResult<S::Handle>, ParseFault>
@@ -125,7 +125,7 @@ fn answer_tag<S: TreeSink>(
 }
 
 /// An item of a page, with the answer to it; and the line in which it stands.
-pub(crate) fn tell<S: TreeSink>(
+pub(crate) fn emit<S: TreeSink>(
     page: &mut Parse<S>,
     token: Token,
     line: u64,
@@ -137,13 +137,13 @@ pub(crate) fn tell<S: TreeSink>(
 {
     page.tree.sink.set_current_line(line)?;
     match token {
-        Token::CharacterTokens(text) => tell_characters(page, text)?,
-        Token::NullCharacterToken => tell_null(page)?,
-        Token::TagToken(tag) => return tell_tag(page, tag),
-        Token::CommentToken(text) => tell_comment(page, text)?,
-        Token::DoctypeToken(doctype) => tell_doctype(page, doctype)?,
-        Token::ParseError(message) => tell_error(page, message)?,
-        Token::EOFToken => tell_end(page)?,
+        Token::CharacterTokens(text) => emit_characters(page, text)?,
+        Token::NullCharacterToken => emit_null(page)?,
+        Token::TagToken(tag) => return emit_tag(page, tag),
+        Token::CommentToken(text) => emit_comment(page, text)?,
+        Token::DoctypeToken(doctype) => emit_doctype(page, doctype)?,
+        Token::ParseError(message) => emit_error(page, message)?,
+        Token::EOFToken => emit_end(page)?,
     }
     Ok(TokenSinkResult::Continue)
 }

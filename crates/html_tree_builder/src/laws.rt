@@ -11,10 +11,10 @@ ghost use Rattle.html_tree_builder.specs.declared.builder.TreeBuilder.{TreeBuild
 ghost use Rattle.rules_table.specs.Settling.{meaning};
 ghost use Rattle.rules_table.specs.Welcome.{IsReady, IsWelcome};
 
-use tree_forest::TreeSink;
-use token_grammar::laws::one_reading;
-use html_tokenizer::a_sink_may_change_but_for_its_state;
 use crate::builder::TreeBuilder;
+use html_tokenizer::a_sink_may_change_but_for_its_state;
+use token_grammar::laws::one_reading;
+use tree_forest::TreeSink;
 
 /// A page has one tree: whoever parses equal texts with equal options, in whatever pieces, has equal forests.
 pub fn a_page_has_one_tree<S: TreeSink>()

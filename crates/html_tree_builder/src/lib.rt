@@ -2,7 +2,7 @@
 //!
 //! # Parsers
 //!
-//! Whole pages into trees: the tree builder after the tokenizer. What its calls name of the crates below it is
+//! Whole pages into trees: the tree builder, fed by the tokenizer. What its calls name of the crates below it is
 //! exported here too.
 //!
 //! ## What is proved
@@ -76,6 +76,6 @@ pub use laws::{a_fragment_has_one_tree, a_page_has_one_tree};
 pub use options::ParseOpts;
 pub use pages::{parse_document, parse_pieces};
 pub use parser::Parser;
-pub use refusals::{ends_twice, tells_twice};
+pub use refusals::{emits_twice, ends_twice};
 pub use rules_table::TreeBuilderOpts;
 pub use tree_forest::TreeSink;

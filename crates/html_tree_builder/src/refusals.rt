@@ -5,12 +5,12 @@ ghost use Rattle.rules_actions.specs.Parsed.{state_of};
 ghost use Rattle.rules_table.specs.Welcome.{IsFit};
 
 use crate::builder::TreeBuilder;
-use tree_forest::TreeSink;
-use token_grammar::TokenSink;
 use html_lexemes::{ParseFault, Token, TokenSinkResult};
+use token_grammar::TokenSink;
+use tree_forest::TreeSink;
 
 /// Tells a token and, where it is refused, another one, which is refused as `Failed`.
-pub fn tells_twice<S: TreeSink>(
+pub fn emits_twice<S: TreeSink>(
     builder: &mut TreeBuilder<S>,
     token: Token,
     later: Token,

@@ -13,11 +13,11 @@ ghost use Rattle.rules_table.specs.Settling.{Ready, reply, step};
 ghost use Rattle.rules_table.specs.Welcome.{IsFit, IsHeard, IsReady, IsWelcome};
 
 use crate::builder::TreeBuilder;
-use crate::items::tell;
-use tree_forest::TreeSink;
-use token_grammar::TokenSink;
+use crate::items::emit;
 use html_lexemes::{ParseFault, TagKind, Token, TokenSinkResult};
 use rules_actions::Parse;
+use token_grammar::TokenSink;
+use tree_forest::TreeSink;
 use tree_predicates::{InsertionMode, is_of_html};
 
 impl<S: TreeSink> TokenSink for TreeBuilder<S> {
@@ -73,13 +73,13 @@ impl<S: TreeSink> TokenSink for TreeBuilder<S> {
         if is_out_of_place(self.page.kept.mode, &token) {
             return self.refuse(ParseFault::Failed);
         }
-        match tell(&mut self.page, token, line) {
+        match emit(&mut self.page, token, line) {
             Ok(answer) => Ok(answer),
             Err(fault) => self.refuse(fault),
         }
     }
 
-    /// Tells the sink of trees that the open elements are so no longer, from the current node on. After a refused call
+    /// Emits the sink of trees that the open elements are so no longer, from the current node on. After a refused call
     /// it is refused as `Failed`; else the error is allocation failure.
     fn end(&mut self) -> Result<(), ParseFault>
         requires { IsFit (state_of S.view self.old.page) }
@@ -92,7 +92,7 @@ impl<S: TreeSink> TokenSink for TreeBuilder<S> {
         if self.page.kept.has_failed {
             return Err(ParseFault::Failed);
         }
-        match tell_closed(&mut self.page) {
+        match emit_closed(&mut self.page) {
             Ok(()) => Ok(()),
             Err(fault) => {
                 // a refused call leaves it so
@@ -150,22 +150,22 @@ fn is_markup(token: &Token) -> bool
 }
 
 // the open elements are shown, the current node first
-fn tell_closed<S: TreeSink>(page: &mut Parse<S>) -> Result<(), ParseFault>
+fn emit_closed<S: TreeSink>(page: &mut Parse<S>) -> Result<(), ParseFault>
     requires ready { Ready (state_of S.view page.old) }
     ensures seen { OnOk result (state_of S.view page.new ≡ state_of S.view page.old) }
     ensures memory { IfErr result (λ e. e ≡ Memory) }
 {
-    tell_popped(page.tree.held.open_elements(), &mut page.tree.sink)
+    emit_popped(page.tree.held.open_elements(), &mut page.tree.sink)
 }
 
 // elements are shown, the last first
-fn tell_popped<S: TreeSink>(open: &[S::Handle], sink: &mut S) -> Result<(), ParseFault>
-    requires { (n : ℕ) → IsIn n (stack_of S.view.number open.now) → IsElement n (S.view.forest sink.old) }
+fn emit_popped<S: TreeSink>(elements: &[S::Handle], sink: &mut S) -> Result<(), ParseFault>
+    requires { (n : ℕ) → IsIn n (stack_of S.view.number elements.now) → IsElement n (S.view.forest sink.old) }
     ensures forest { S.view.forest sink.new ≡ S.view.forest sink.old }
     ensures quirks { S.view.quirks sink.new ≡ S.view.quirks sink.old }
     ensures memory { IfErr result (λ e. e ≡ Memory) }
 {
-    let mut rest = open;
+    let mut rest = elements;
     'elements: while let Some((element, lower)) = rest.split_last() {
         sink.pop(*element)?;
         rest = lower;

@@ -1,6 +1,6 @@
 -- The furthest block, looked for from the current node, and what stands above an element.
-use Rattle.std.proofs.Common.{◌≡◌, ℕ, ◌==◌, Bool, true, false, List, [], ◌∷◌, Option, None, Some, refl, ap, ◌∙◌}
-use Rattle.std.proofs.Common.{if◌then◌else◌}
+use Rattle.std.proofs.Common.{◌≡◌, ◌==◌, [], ◌∷◌, ◌∙◌, if◌then◌else◌, Bool, List, None, Option, Some, ap, false, refl}
+use Rattle.std.proofs.Common.{true, ℕ}
 use Rattle.tree_forest.specs.Forest.{Forest, is_in, name_of}
 use Rattle.tree_names.specs.ElementSets.{special_elements}
 use Rattle.tree_names.specs.Sets.{is_element_of}

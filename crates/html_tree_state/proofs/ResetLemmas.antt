@@ -1,6 +1,6 @@
 -- Which mode the open elements ask for, element by element.
-use Rattle.std.proofs.Common.{◌≡◌, ℕ, ◌<◌, Bool, false, refl, ap, ◌∙◌, List, [], ◌∷◌, ◌++◌, Option, None, Some, length}
-use Rattle.std.proofs.Common.{map, arith}
+use Rattle.std.proofs.Common.{◌≡◌, ◌<◌, ◌∙◌, [], ◌∷◌, ◌++◌, Bool, List, None, Option, Some, ap, arith, false, length}
+use Rattle.std.proofs.Common.{map, refl, ℕ}
 use Rattle.std.proofs.lemmas.List.{length-map, length-reverse}
 use Rattle.html_lexemes.specs.declared.names.QualName.{QualName}
 use Rattle.tree_model.specs.Building.{stack_of}

@@ -12,10 +12,10 @@ ghost use Rattle.tree_model.specs.Points.{place_of};
 ghost use Rattle.tree_model.specs.Sound.{Sound};
 
 use crate::construction::Construction;
-use tree_forest::{NodeOrText, TreeSink};
 use html_lexemes::{Namespace, ParseFault, QualName, Tag};
-use tree_predicates::element_flags;
+use tree_forest::{NodeOrText, TreeSink};
 use tree_model::{InsertionPoint, adopting_keeps_sound, adopting_may_be_done, laws_of_forests};
+use tree_predicates::element_flags;
 
 impl<S: TreeSink> Construction<S> {
     // makes an HTML element for a tag, which stands nowhere yet

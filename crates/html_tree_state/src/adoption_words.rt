@@ -9,10 +9,10 @@ ghost use Rattle.tree_model.specs.OpenElements.{first_of, up_to};
 ghost use Rattle.tree_model.specs.Sound.{Sound};
 
 use crate::construction::Construction;
-use tree_forest::TreeSink;
 use html_lexemes::LocalName;
-use tree_names::{Scope, is_special};
+use tree_forest::TreeSink;
 use tree_model::{last_element, position};
+use tree_names::{Scope, is_special};
 
 impl<S: TreeSink> Construction<S> {
     /// Whether an element is open.

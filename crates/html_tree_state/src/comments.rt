@@ -11,8 +11,8 @@ ghost use Rattle.tree_model.specs.Points.{place_of};
 ghost use Rattle.tree_model.specs.Sound.{Sound};
 
 use crate::construction::Construction;
-use tree_forest::{NodeOrText, QuirksMode, TreeSink};
 use html_lexemes::{Attributes, Doctype, ParseFault, Text};
+use tree_forest::{NodeOrText, QuirksMode, TreeSink};
 use tree_model::{InsertionPoint, first_element, laws_of_forests};
 
 impl<S: TreeSink> Construction<S> {

@@ -9,8 +9,8 @@ ghost use Rattle.tree_names.specs.Wanted.{elements_of};
 ghost use Rattle.tree_model.specs.Sound.{Sound};
 
 use crate::construction::Construction;
-use tree_forest::TreeSink;
 use html_lexemes::{LocalName, ParseFault};
+use tree_forest::TreeSink;
 use tree_names::{ElementSet, is_special};
 
 impl<S: TreeSink> Construction<S> {

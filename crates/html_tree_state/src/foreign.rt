@@ -3,13 +3,12 @@ ghost use Rattle.std.specs.Prelude.{◌≡◌, IfErr, IfOk, OnOk, is_some, optio
 ghost use Rattle.tree_forest.specs.Orders.{IsForest};
 ghost use Rattle.html_lexemes.specs.declared.fault.ParseFault.TheVariants.{Memory};
 ghost use Rattle.tree_model.specs.Building.{seen};
-ghost use Rattle.tree_model.specs.Foreign.{adjusted_current, broken_out, closed_by_foreign_end};
-ghost use Rattle.tree_model.specs.Foreign.{named_foreign};
+ghost use Rattle.tree_model.specs.Foreign.{adjusted_current, broken_out, closed_by_foreign_end, named_foreign};
 ghost use Rattle.tree_model.specs.Sound.{Sound};
 
 use crate::construction::Construction;
-use tree_forest::TreeSink;
 use html_lexemes::{LocalName, ParseFault};
+use tree_forest::TreeSink;
 use tree_predicates::{closes_foreign, is_of_html, stops_break_out};
 
 impl<S: TreeSink> Construction<S> {

@@ -11,10 +11,10 @@ ghost use Rattle.tree_model.specs.Scopes.{taken_off, with_closed_p};
 ghost use Rattle.tree_model.specs.Sound.{Sound};
 
 use crate::construction::Construction;
-use tree_forest::TreeSink;
 use html_lexemes::{Namespace, ParseFault, QualName, Tag};
-use tree_names::{ElementSet, Scope};
+use tree_forest::TreeSink;
 use tree_model::{PushFlag, adopting_keeps_sound, laws_of_forests};
+use tree_names::{ElementSet, Scope};
 
 impl<S: TreeSink> Construction<S> {
     /// Puts a marker into the list.

@@ -12,10 +12,10 @@ ghost use Rattle.tree_model.specs.Points.{place_of};
 ghost use Rattle.tree_model.specs.Sound.{Sound};
 
 use crate::construction::Construction;
-use tree_forest::{NodeOrText, TreeSink};
 use html_lexemes::{ParseFault, Text};
-use tree_names::{is_foster_target, is_html};
+use tree_forest::{NodeOrText, TreeSink};
 use tree_model::{InsertionPoint, last_element, laws_of_forests};
+use tree_names::{is_foster_target, is_html};
 
 impl<S: TreeSink> Construction<S> {
     /// Where a node is inserted into an open element: after its children, those of its contents if it is a template.

@@ -18,12 +18,12 @@ mod resetting;
 mod scopes;
 
 pub use construction::Construction;
+pub use resetting::html_elem;
 pub use tree_forest;
 pub use tree_forest::{ElementFlags, NodeOrText, QuirksMode, TreeSink};
-pub use tree_serializer;
-pub use tree_names;
-pub use tree_names::{ElementSet, Scope};
-pub use resetting::html_elem;
 pub use tree_formatting::{ActiveFormattingIter, FormatEntry, FormattingList};
 pub use tree_model::{Held, InsertionPoint, PushFlag, words_keep_a_tree_sound};
+pub use tree_names;
+pub use tree_names::{ElementSet, Scope};
 pub use tree_predicates;
+pub use tree_serializer;

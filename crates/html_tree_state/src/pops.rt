@@ -4,14 +4,14 @@ ghost use Rattle.tree_forest.specs.Orders.{IsForest};
 ghost use Rattle.html_lexemes.specs.declared.fault.ParseFault.TheVariants.{Memory};
 ghost use Rattle.tree_model.specs.Building.{seen};
 ghost use Rattle.tree_model.specs.OpenElements.{first_of};
-ghost use Rattle.tree_model.specs.Scopes.{has_item as is_item_open, implied, popped, popped_down_to, popped_to};
-ghost use Rattle.tree_model.specs.Scopes.{is_item_barrier, with_closed_item};
+ghost use Rattle.tree_model.specs.Scopes.{has_item as is_item_open, implied, is_item_barrier, popped, popped_down_to};
+ghost use Rattle.tree_model.specs.Scopes.{popped_to, with_closed_item};
 ghost use Rattle.tree_names.specs.Wanted.{elements_of};
 ghost use Rattle.tree_model.specs.Sound.{Sound};
 
 use crate::construction::Construction;
-use tree_forest::TreeSink;
 use html_lexemes::{ParseFault, QualName};
+use tree_forest::TreeSink;
 use tree_names::{ElementSet, is_address_div_or_p, is_special};
 
 impl<S: TreeSink> Construction<S> {

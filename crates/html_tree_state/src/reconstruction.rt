@@ -9,8 +9,8 @@ ghost use Rattle.tree_model.specs.Formatting.{is_kept, made_already, made_from, 
 ghost use Rattle.tree_model.specs.Sound.{Sound};
 
 use crate::construction::Construction;
-use tree_forest::TreeSink;
 use html_lexemes::ParseFault;
+use tree_forest::TreeSink;
 use tree_formatting::FormatEntry;
 use tree_model::{laws_of_forests, position};
 

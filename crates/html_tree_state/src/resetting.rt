@@ -6,8 +6,8 @@ ghost use Rattle.tree_model.specs.Sound.{Sound};
 ghost use Rattle.tree_predicates.specs.Modes.{reset_mode};
 
 use crate::construction::Construction;
-use tree_forest::TreeSink;
 use html_lexemes::QualName;
+use tree_forest::TreeSink;
 use tree_predicates::{InsertionMode, own_mode, root_mode};
 
 /// The root, which was opened first.

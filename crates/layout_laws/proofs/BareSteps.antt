@@ -5,7 +5,7 @@ use Rattle.std.specs.Option.{option_map, option_and_then}
 use Rattle.block_trait.specs.Bare.{bare_of}
 use Rattle.block_trait.specs.Calls.{Call, call_of, step}
 use Rattle.block_trait.specs.Calls as calls
-use Rattle.block_trait.specs.Renderers.{Marking, Sub, add_inline, begin_link, finish_link, room_behind}
+use Rattle.block_trait.specs.Renderers.{Marking, Sub, add_inline, begin_link, finish_link, room_after}
 use Rattle.text_block_renderer.specs.Parts.{Parts, add_part_number, begin_part_link, finish_part_link, footnote_mark}
 use Rattle.text_block_renderer.specs.Parts.{numbered, with_current, with_target}
 use Rattle.text_lines.specs.Columns.{text_columns}
@@ -14,16 +14,15 @@ use Rattle.render_values.specs.declared.info.Head.{Head}
 use Rattle.render_values.specs.declared.info.RenderInfo.{RenderInfo}
 use Rattle.render_values.specs.declared.info.RenderInfo.TheVariants as infos
 use Rattle.render_values.specs.declared.style.RenderStyle.{RenderStyle}
-use Rattle.layout_state.specs.Begins.{begins, ends, fragment_leads, following, leading, named, style_begins}
-use Rattle.layout_state.specs.Begins.{style_ends}
+use Rattle.layout_state.specs.Begins.{begins, ends, following, fragment_leads, leading, named, style_begins, style_ends}
 use Rattle.layout_state.specs.Items.{item_columns, item_mark, last_mark, next_mark, padded, spaces}
-use Rattle.layout_state.specs.Laying.{Laying, Step, TablePlace, begins_link, behind_prefix, cells, ends_link, for_some}
-use Rattle.layout_state.specs.Laying.{goes_on, goes_to, in_current, in_part, in_parts, in_turn, mark_of, outside}
-use Rattle.layout_state.specs.Laying.{part_begun, part_ended, rows, says}
+use Rattle.layout_state.specs.LayoutState.{LayoutState, Step, TablePlace, after_prefix, begins_link, cells, ends_link}
+use Rattle.layout_state.specs.LayoutState.{for_some, goes_on, goes_to, in_current, in_part, in_parts, in_turn, mark_of}
+use Rattle.layout_state.specs.LayoutState.{outside, part_begun, part_ended, rows, says}
 use Rattle.layout_state.specs.declared.around.Around.{Around}
 use Rattle.layout_state.specs.declared.around.Around.TheVariants.{Flow, Items}
 use Rattle.layout_state.specs.declared.around.ItemMark.{ItemMark}
-use Rattle.layout_values.specs.Lay.{behind_mark, item_laid, listed, placed, styled}
+use Rattle.layout_values.specs.Lay.{after_mark, item_laid, listed, placed, styled}
 use Rattle.layout_laws.specs.BareLaws.{bare_parts}
 
 -- what the crate below says of calls
@@ -39,12 +38,12 @@ bare_place (outside in_cell) = outside in_cell
 bare_place (rows widths slots fragments) = rows widths slots fragments
 bare_place (cells widths more fragments slots made) = cells widths more fragments slots (bares made)
 
-abbrev pub bare_laying : {H A : Type 0} → Laying H A → Laying H A
+abbrev pub bare_laying : {H A : Type 0} → LayoutState H A → LayoutState H A
 bare_laying l = record { parts = bare_parts l.parts; around = l.around; table = bare_place l.table }
 
 -- The first step makes of a page without annotations what the second makes of the page, without them.
 pub record Alike {H A : Type 0} (f g : Step H A) : Type 0 where
-  pub at : (l : Laying H A) → f (bare_laying l) ≡ option_map bare_laying (g l)
+  pub at : (l : LayoutState H A) → f (bare_laying l) ≡ option_map bare_laying (g l)
 
 -- ---- steps
 
@@ -147,12 +146,12 @@ link_ends {m = m} laws = record {
 
 -- ---- parts
 
-pub part_alike : {H A : Type 0} (m : Marking H A) (width : ℕ) (l : Laying H A)
+pub part_alike : {H A : Type 0} (m : Marking H A) (width : ℕ) (l : LayoutState H A)
     → in_part m width (bare_laying l) ≡ bare_laying (in_part m width l)
 unfolding in_part
 part_alike m width l = refl
 
-opened : {H A : Type 0} (m : Marking H A) (l : Laying H A) (o : Option ℕ)
+opened : {H A : Type 0} (m : Marking H A) (l : LayoutState H A) (o : Option ℕ)
     → option_map (λ width. in_part m width (bare_laying l)) o
     ≡ option_map bare_laying (option_map (λ width. in_part m width l) o)
 opened m l None = refl
@@ -161,7 +160,7 @@ opened m l (Some width) = ap Some (part_alike m width l)
 part_begins : {H A : Type 0} (m : Marking H A) (columns least : ℕ)
     → Alike (part_begun m columns least) (part_begun m columns least)
 unfolding part_begun
-part_begins m columns least = record { at = λ l. opened m l (room_behind columns (least - columns) l.parts.current) }
+part_begins m columns least = record { at = λ l. opened m l (room_after columns (least - columns) l.parts.current) }
 
 part_ends : {H A : Type 0} {m : Marking H A} (laws : BareLaws m) (outer : Sub H A) (first further : List ℕ)
     → Alike (part_ended m (bare_of outer) first further) (part_ended m outer first further)
@@ -172,7 +171,7 @@ part_ends laws outer first further = record {
 
 pub prefix_alike : {H A : Type 0} {m : Marking H A} (laws : BareLaws m) (columns : ℕ) (first further : List ℕ)
     (least : ℕ) (f g : Step H A) → Alike f g
-    → Alike (behind_prefix m columns first further least f) (behind_prefix m columns first further least g)
+    → Alike (after_prefix m columns first further least f) (after_prefix m columns first further least g)
 prefix_alike {m = m} laws columns first further least f g same = record {
   at = λ l. (turn _ _ _ _ (part_begins m columns least)
       (turn f g _ _ same (part_ends laws l.parts.current first further))).at l;
@@ -181,7 +180,7 @@ prefix_alike {m = m} laws columns first further least f g same = record {
 -- ---- a value
 
 pub mark_alike : {H A : Type 0} {m : Marking H A} (laws : BareLaws m) (kind : marks.Mark) (least : ℕ) (f g : Step H A)
-    → Alike f g → Alike (behind_mark m kind least f) (behind_mark m kind least g)
+    → Alike f g → Alike (after_mark m kind least f) (after_mark m kind least g)
 unfolding mark_of
 mark_alike {m = m} laws kind least f g same = record {
   at = λ l. let text = m.mark_text l.parts.current.held kind in

@@ -1,6 +1,6 @@
 -- Each step makes the same of a page whose renderers keep no annotations: in tables, and so all values do.
-use Rattle.std.proofs.Common.{◌≡◌, ℕ, Bool, true, false, List, [], ◌∷◌, ◌++◌, Option, None, Some, map, sym, ap, ◌∙◌}
-use Rattle.std.proofs.Common.{refl}
+use Rattle.std.proofs.Common.{◌≡◌, [], ◌∷◌, ◌++◌, ◌∙◌, Bool, List, None, Option, Some, ap, false, map, refl, sym, true}
+use Rattle.std.proofs.Common.{ℕ}
 use Rattle.std.specs.Prelude.{codes, filter, if◌then◌else◌}
 use Rattle.std.specs.Option.{option_map, option_to_list}
 use Rattle.std.proofs.lemmas.List.{map-append}
@@ -21,19 +21,19 @@ use Rattle.render_values.specs.declared.info.RenderInfo.{RenderInfo}
 use Rattle.render_values.specs.declared.info.RenderInfo.TheVariants as infos
 use Rattle.layout_state.specs.Begins.{following, named}
 use Rattle.layout_state.specs.Items.{spaces}
-use Rattle.layout_state.specs.Laying.{Laying, Step, TablePlace, cells, goes_to, in_turn, outside, rows, says}
+use Rattle.layout_state.specs.LayoutState.{LayoutState, Step, TablePlace, cells, goes_to, in_turn, outside, rows, says}
 use Rattle.layout_values.specs.Lay.{Content, among_cells, among_rows, content_of, holds, in_its_group, in_its_row}
-use Rattle.layout_values.specs.Lay.{in_its_slot, laid, laid_at, lay, laid_parts, on_page, shown, styled}
+use Rattle.layout_values.specs.Lay.{in_its_slot, laid, laid_at, laid_parts, lay, on_page, shown, styled}
 use Rattle.layout_state.specs.declared.around.ItemMark.TheVariants.{Bullet, Number}
 use Rattle.layout_tables.specs.Tables.{border_call, cell_begun, cell_ended, cell_laid, columns_laid, empties_before}
 use Rattle.layout_tables.specs.Tables.{empty_slots, end_of_row, fence, from_cell, in_cell, in_slot, is_fenced}
 use Rattle.layout_tables.specs.Tables.{renderer_of, row_begun, row_call, row_ended, rows_laid, rows_of, slot_width}
 use Rattle.layout_tables.specs.Tables.{start_all, table_begun, table_ended, table_laid, top_border}
 use Rattle.layout_laws.specs.BareLaws.{bare_parts}
-use Rattle.layout_laws.proofs.BareSteps.{Alike, BareLaws, bare_laying, bare_place, bares, begins_alike, either, ends_alike}
-use Rattle.layout_laws.proofs.BareSteps.{following_alike, leading_alike, list_alike, map_alike, mark_alike, named_alike}
-use Rattle.layout_laws.proofs.BareSteps.{part_alike, placed_alike, prefix_alike, says_alike, stays, styled_alike, to_alike}
-use Rattle.layout_laws.proofs.BareSteps.{turn}
+use Rattle.layout_laws.proofs.BareSteps.{Alike, BareLaws, bare_laying, bare_place, bares, begins_alike, either}
+use Rattle.layout_laws.proofs.BareSteps.{ends_alike, following_alike, leading_alike, list_alike, map_alike, mark_alike}
+use Rattle.layout_laws.proofs.BareSteps.{named_alike, part_alike, placed_alike, prefix_alike, says_alike, stays}
+use Rattle.layout_laws.proofs.BareSteps.{styled_alike, to_alike, turn}
 
 -- ---- a table
 
@@ -178,7 +178,7 @@ cell_ends outer widths more slots made taken = record {
       (sym (map-append (λ c. (bare_of c.0, c.1)) made ((l.parts.current, taken) ∷ [])));
 }
 
-chosen : {H A : Type 0} (t : Bool) (x y p q : Option (Laying H A)) → x ≡ option_map bare_laying y
+chosen : {H A : Type 0} (t : Bool) (x y p q : Option (LayoutState H A)) → x ≡ option_map bare_laying y
     → p ≡ option_map bare_laying q → (if t then x else p) ≡ option_map bare_laying (if t then y else q)
 chosen true x y p q one other = one
 chosen false x y p q one other = other

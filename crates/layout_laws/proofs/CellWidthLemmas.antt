@@ -1,16 +1,15 @@
 -- Cells of a row keep the width.
-use Rattle.std.proofs.Common.{◌≡◌, ℕ, Bool, true, false, List, [], ◌∷◌, ◌++◌, Option, IfSome}
-use Rattle.std.proofs.Common.{refl, ◌∙◌}
+use Rattle.std.proofs.Common.{◌≡◌, [], ◌∷◌, ◌++◌, ◌∙◌, Bool, IfSome, List, Option, false, refl, true, ℕ}
 use Rattle.std.specs.Prelude.{if◌then◌else◌}
 use Rattle.block_layout_laws.proofs.OptionLemmas.{chained}
 use Rattle.block_trait.specs.Calls as calls
 use Rattle.block_trait.specs.Renderers.{Marking, Sub}
 use Rattle.table_widths.specs.Slots.{has_columns}
 use Rattle.table_widths.specs.declared.slot.Slot.{Slot}
-use Rattle.layout_state.specs.Laying.{Laying, Step, cells, goes_to, in_part, in_turn, says}
+use Rattle.layout_state.specs.LayoutState.{LayoutState, Step, cells, goes_to, in_part, in_turn, says}
 use Rattle.layout_state.specs.declared.around.Around.TheVariants.{Flow}
-use Rattle.layout_tables.specs.Tables.{cell_begun, cell_ended, cell_laid, empties_before, empty_slots, from_cell, in_cell}
-use Rattle.layout_tables.specs.Tables.{in_slot, slot_width, start_all}
+use Rattle.layout_tables.specs.Tables.{cell_begun, cell_ended, cell_laid, empties_before, empty_slots, from_cell}
+use Rattle.layout_tables.specs.Tables.{in_cell, in_slot, slot_width, start_all}
 use Rattle.layout_laws.proofs.RowFitLemmas.{seats_of}
 use Rattle.layout_laws.proofs.TableStates.{FitsCells, empties_fit, made_fits, skip_fits}
 use Rattle.layout_laws.proofs.TableWidthLemmas.{InCells}
@@ -25,13 +24,13 @@ starts_keep {m = m} laws (name ∷ names) =
     (says_keeps laws Flow (calls.starts_fragment name) (λ s. tt)) (starts_keep laws names)
 
 -- the renderer of a cell, beside the one outside
-record IsCellIn {H A : Type 0} (width : ℕ) (x y : Laying H A) : Type 0 where
+record IsCellIn {H A : Type 0} (width : ℕ) (x y : LayoutState H A) : Type 0 where
   pub sound : AreSound y.parts
   pub at : At true Flow y
   pub below : y.parts.below ≡ x.parts.below
   pub wide : y.parts.current.width ≡ width
 
-cell_in : {H A : Type 0} {m : Marking H A} (laws : WidthLaws m) (width : ℕ) (x : Laying H A) → AreSound x.parts
+cell_in : {H A : Type 0} {m : Marking H A} (laws : WidthLaws m) (width : ℕ) (x : LayoutState H A) → AreSound x.parts
     → IsCellIn width x (in_cell m width x)
 unfolding in_cell in_part
 cell_in laws width x sound = record {
@@ -43,7 +42,7 @@ cell_in laws width x sound = record {
   wide = refl;
 }
 
-cell_on : {H A : Type 0} (width : ℕ) (x y z : Laying H A) → IsCellIn width x y → Kept (At true Flow) y z
+cell_on : {H A : Type 0} (width : ℕ) (x y z : LayoutState H A) → IsCellIn width x y → Kept (At true Flow) y z
     → IsCellIn width x z
 cell_on width x y z part k = record {
   sound = sound_on y.parts z.parts part.sound k.0;
@@ -53,7 +52,7 @@ cell_on width x y z part k = record {
 }
 
 cell_ends : {H A : Type 0} (widths : Option (List ℕ)) (more : List (List Slot)) (s : Slot) (slots : List Slot)
-    (made : List (Sub H A × ℕ)) (x z : Laying H A) → AreSound x.parts → has_columns s ≡ true
+    (made : List (Sub H A × ℕ)) (x z : LayoutState H A) → AreSound x.parts → has_columns s ≡ true
     → FitsCells widths more (s ∷ slots) made x.parts.current.width (seats_of x.parts.current)
     → IsCellIn (slot_width widths x.parts.current.width s) x z
     → IfSome (cell_ended x.parts.current widths more slots made s.rows z) (Kept (InCells widths) x)
@@ -78,7 +77,7 @@ cell_ends widths more s slots made x z sound some fits part = (
 
 inside_keeps : {H A : Type 0} {m : Marking H A} (laws : WidthLaws m) (widths : Option (List ℕ))
     (more : List (List Slot)) (fragments : List (List ℕ)) (s : Slot) (slots : List Slot) (made : List (Sub H A × ℕ))
-    (inside : Step H A) (x : Laying H A) → Keeps Flow Flow inside → AreSound x.parts → has_columns s ≡ true
+    (inside : Step H A) (x : LayoutState H A) → Keeps Flow Flow inside → AreSound x.parts → has_columns s ≡ true
     → FitsCells widths more (s ∷ slots) made x.parts.current.width (seats_of x.parts.current)
     → IfSome (in_turn (cell_begun m (slot_width widths x.parts.current.width s) fragments)
     (in_turn inside (cell_ended x.parts.current widths more slots made s.rows)) x) (Kept (InCells widths) x)
@@ -95,7 +94,7 @@ inside_keeps {H} {A} {m} laws widths more fragments s slots made inside x keeps 
     width : ℕ
     width = slot_width widths x.parts.current.width s
 
-    begun : Laying H A
+    begun : LayoutState H A
     begun = in_cell m width x
 
     ended : Step H A
@@ -106,7 +105,7 @@ inside_keeps {H} {A} {m} laws widths more fragments s slots made inside x keeps 
 
 slot_keeps : {H A : Type 0} {m : Marking H A} (laws : WidthLaws m) (widths : Option (List ℕ))
     (more : List (List Slot)) (fragments : List (List ℕ)) (slots : List Slot) (made : List (Sub H A × ℕ))
-    (inside : Step H A) (x : Laying H A) → Keeps Flow Flow inside → AreSound x.parts → x.around ≡ Flow
+    (inside : Step H A) (x : LayoutState H A) → Keeps Flow Flow inside → AreSound x.parts → x.around ≡ Flow
     → FitsCells widths more slots made x.parts.current.width (seats_of x.parts.current)
     → IfSome (in_slot m widths more fragments slots made inside x) (Kept (InCells widths) x)
 slot_keeps laws widths more fragments [] made inside x keeps sound flows fits = (
@@ -136,7 +135,7 @@ slot_keeps {H} {A} {m} laws widths more fragments (s ∷ slots) made inside x ke
 
 pub cell_keeps : {H A : Type 0} {m : Marking H A} (laws : WidthLaws m) (widths : Option (List ℕ))
     (more : List (List Slot)) (fragments : List (List ℕ)) (slots : List Slot) (made : List (Sub H A × ℕ))
-    (inside : Step H A) (x : Laying H A) → Keeps Flow Flow inside → AreSound x.parts → x.around ≡ Flow
+    (inside : Step H A) (x : LayoutState H A) → Keeps Flow Flow inside → AreSound x.parts → x.around ≡ Flow
     → FitsCells widths more slots made x.parts.current.width (seats_of x.parts.current)
     → IfSome (cell_laid m widths more fragments slots made inside x) (Kept (InCells widths) x)
 unfolding cell_laid

@@ -1,18 +1,18 @@
 -- Slots of a row among which others are put, one by one.
-use Rattle.std.proofs.Common.{◌≡◌, ℕ, zero, suc, ◌+◌, ◌<◌, ◌≤◌, Bool, true, false, cond, nat_lt, List, [], ◌∷◌, ◌++◌}
-use Rattle.std.proofs.Common.{length, get_or, take, drop, ap, subst, sym, refl, arith}
+use Rattle.std.proofs.Common.{◌≡◌, ◌+◌, ◌<◌, ◌≤◌, [], ◌∷◌, ◌++◌, Bool, List, ap, arith, cond, drop, false, get_or}
+use Rattle.std.proofs.Common.{length, nat_lt, refl, subst, suc, sym, take, true, zero, ℕ}
 use Rattle.std.specs.List.{AllByRecursion, prefix_len}
 use Rattle.std.proofs.lemmas.Bool.Decides.{nat_tests}
 use Rattle.table_widths.specs.declared.slot.Slot.{Slot}
 use Rattle.table_widths.specs.Slots.{begins_before, merged}
 
-abbrev pub BeginsBehind : Slot → List Slot → Type 0
-BeginsBehind s [] = Unit {0}
-BeginsBehind s (t ∷ slots) = s.first ≤ t.first
+abbrev pub BeginsAfter : Slot → List Slot → Type 0
+BeginsAfter s [] = Unit {0}
+BeginsAfter s (t ∷ slots) = s.first ≤ t.first
 
 pub data IsMerged : List Slot → List Slot → List Slot → Type 0 where
   over : {others : List Slot} → IsMerged [] others others
-  one : {s : Slot} {slots others rest : List Slot} → BeginsBehind s others → IsMerged slots others rest →
+  one : {s : Slot} {slots others rest : List Slot} → BeginsAfter s others → IsMerged slots others rest →
       IsMerged (s ∷ slots) others (s ∷ rest)
   other : {s t : Slot} {slots others rest : List Slot} → t.first < s.first → IsMerged (s ∷ slots) others rest →
       IsMerged (s ∷ slots) (t ∷ others) (t ∷ rest)

@@ -1,6 +1,6 @@
 -- Numbers of items lie between those of the first and of the last, and prefixes are filled up to their columns.
-use Rattle.std.proofs.Common.{◌≡◌, ℕ, suc, ◌-◌, ◌*◌, ◌^◌, ◌≤◌, ◌⊎◌, ℤ, pos, negsuc, ◌+ℤ◌, ◌≤ℤ◌, List, Bool, true, false}
-use Rattle.std.proofs.Common.{inl, inr, refl, ap, arith}
+use Rattle.std.proofs.Common.{◌≡◌, ◌-◌, ◌*◌, ◌^◌, ◌≤◌, ◌⊎◌, ◌+ℤ◌, ◌≤ℤ◌, Bool, List, ap, arith, false, inl, inr, negsuc}
+use Rattle.std.proofs.Common.{pos, refl, suc, true, ℕ, ℤ}
 use Rattle.std.specs.Prelude.{FitsSigned, min, nat_le, unwrap_or}
 use Rattle.std.specs.Int.{w64, saturate_signed}
 use Rattle.std.proofs.lemmas.Bool.Decides.{nat_tests}

@@ -6,7 +6,7 @@ use Rattle.block_layout_laws.proofs.OptionLemmas.{given_mapped, given_chained}
 use Rattle.block_renderer.specs.NewParts.{part_of}
 use Rattle.block_trait.specs.Calls.{Call, step}
 use Rattle.block_trait.specs.Calls as calls
-use Rattle.block_trait.specs.Renderers.{Marking, Sub, room_behind}
+use Rattle.block_trait.specs.Renderers.{Marking, Sub, room_after}
 use Rattle.block_laws.specs.RendererLaws.{CallHasRoom, HasRoom}
 use Rattle.text_block_renderer.specs.PartLaws.{HaveRoom}
 use Rattle.text_block_renderer.specs.Parts.{Parts, begin_part_link, finish_part_link}
@@ -15,12 +15,11 @@ use Rattle.render_values.specs.declared.info.Head.{Head}
 use Rattle.render_values.specs.declared.info.RenderInfo.{RenderInfo}
 use Rattle.render_values.specs.declared.info.RenderInfo.TheVariants as infos
 use Rattle.render_values.specs.declared.style.RenderStyle.{RenderStyle}
-use Rattle.layout_state.specs.Begins.{begins, ends, fragment_leads, following, leading, named, style_begins}
-use Rattle.layout_state.specs.Begins.{style_ends}
+use Rattle.layout_state.specs.Begins.{begins, ends, following, fragment_leads, leading, named, style_begins, style_ends}
 use Rattle.layout_state.specs.Items.{next_mark}
-use Rattle.layout_state.specs.Laying.{Laying, Step, TablePlace, begins_link, behind_prefix, cells, ends_link, for_some}
-use Rattle.layout_state.specs.Laying.{goes_on, goes_to, in_current, in_part, in_parts, in_turn, outside, part_begun}
-use Rattle.layout_state.specs.Laying.{part_ended, rows, says}
+use Rattle.layout_state.specs.LayoutState.{LayoutState, Step, TablePlace, after_prefix, begins_link, cells, ends_link}
+use Rattle.layout_state.specs.LayoutState.{for_some, goes_on, goes_to, in_current, in_part, in_parts, in_turn, outside}
+use Rattle.layout_state.specs.LayoutState.{part_begun, part_ended, rows, says}
 use Rattle.layout_state.specs.declared.around.Around.{Around}
 use Rattle.layout_state.specs.declared.around.Around.TheVariants.{Flow, Items}
 use Rattle.layout_values.specs.Lay.{placed, styled}
@@ -29,7 +28,7 @@ use Rattle.layout_values.specs.Lay.{placed, styled}
 pub record RoomLaws {H A : Type 0} (m : Marking H A) : Type 0 where
   pub does : (c : Call (Sub H A)) (s : Sub H A) → HasRoom s → CallHasRoom c → IsSomeAnd (step m c s) HasRoom
   pub part : (width : ℕ) (s : Sub H A) → HasRoom s → HasRoom (part_of m.sub width s)
-  pub behind : (prefix least : ℕ) (s : Sub H A) → HasRoom s → IsSome (room_behind prefix least s)
+  pub trailing : (prefix least : ℕ) (s : Sub H A) → HasRoom s → IsSome (room_after prefix least s)
   pub link_begins : (target : List ℕ) (p : Parts H A) → HaveRoom p → IsSomeAnd (begin_part_link m target p) HaveRoom
   pub link_ends : (p : Parts H A) → HaveRoom p → IsSomeAnd (finish_part_link m p) HaveRoom
 
@@ -40,12 +39,12 @@ RoomAt (rows widths slots fragments) = Unit {0}
 RoomAt (cells widths more fragments slots made) = All (λ c. HasRoom c.0) made
 
 -- all renderers of the page have room
-abbrev pub Roomy : {H A : Type 0} → Laying H A → Type 0
+abbrev pub Roomy : {H A : Type 0} → LayoutState H A → Type 0
 Roomy l = HaveRoom l.parts × RoomAt l.table
 
 -- Where there was room, the step is done, and there is still room.
 abbrev pub Goes : {H A : Type 0} → Step H A → Type 0
-Goes {H} {A} f = (x : Laying H A) → Roomy x → IsSomeAnd (f x) Roomy
+Goes {H} {A} f = (x : LayoutState H A) → Roomy x → IsSomeAnd (f x) Roomy
 
 -- ---- steps
 
@@ -89,7 +88,7 @@ opened : {X Y : Type 0} (Q : Y → Type 0) (f : X → Y) (o : Option X) → ((x 
 opened Q f None each some = absurd (cc some)
 opened Q f (Some x) each some = each x
 
-pub part_goes : {H A : Type 0} {m : Marking H A} (laws : RoomLaws m) (width : ℕ) (x : Laying H A) → Roomy x
+pub part_goes : {H A : Type 0} {m : Marking H A} (laws : RoomLaws m) (width : ℕ) (x : LayoutState H A) → Roomy x
     → Roomy (in_part m width x)
 unfolding in_part
 part_goes laws width x room =
@@ -99,8 +98,8 @@ part_begins : {H A : Type 0} {m : Marking H A} (laws : RoomLaws m) (columns leas
     → Goes (part_begun m columns least)
 unfolding part_begun
 part_begins {m = m} laws columns least x room = opened Roomy (λ width. in_part m width x)
-    (room_behind columns (least - columns) x.parts.current) (λ width. part_goes laws width x room)
-    (laws.behind columns (least - columns) x.parts.current room.0.current)
+    (room_after columns (least - columns) x.parts.current) (λ width. part_goes laws width x room)
+    (laws.trailing columns (least - columns) x.parts.current room.0.current)
 
 part_ends : {H A : Type 0} {m : Marking H A} (laws : RoomLaws m) (outer : Sub H A) (first further : List ℕ)
     → HasRoom outer → Goes (part_ended m outer first further)
@@ -110,8 +109,8 @@ part_ends {m = m} laws outer first further has x room =
     (record { current = has; below = room.0.below }, room.1)
 
 pub prefix_goes : {H A : Type 0} {m : Marking H A} (laws : RoomLaws m) (columns : ℕ) (first further : List ℕ)
-    (least : ℕ) (inside : Step H A) (x : Laying H A) → Goes inside → Roomy x
-    → IsSomeAnd (behind_prefix m columns first further least inside x) Roomy
+    (least : ℕ) (inside : Step H A) (x : LayoutState H A) → Goes inside → Roomy x
+    → IsSomeAnd (after_prefix m columns first further least inside x) Roomy
 prefix_goes {m = m} laws columns first further least inside x goes room =
     goes_through (part_begun m columns least) (in_turn inside (part_ended m x.parts.current first further))
     (part_begins laws columns least)
@@ -120,7 +119,7 @@ prefix_goes {m = m} laws columns first further least inside x goes room =
 
 -- ---- a value
 
-pub list_goes : {H A : Type 0} (a : Around) (inside : Step H A) (x : Laying H A) → Goes inside → Roomy x
+pub list_goes : {H A : Type 0} (a : Around) (inside : Step H A) (x : LayoutState H A) → Goes inside → Roomy x
     → IsSomeAnd (in_turn (goes_on a) (in_turn inside (goes_on Flow)) x) Roomy
 list_goes a inside x goes room = goes_through (goes_on a) (in_turn inside (goes_on Flow)) (goes_around a)
     (goes_through inside (goes_on Flow) goes (goes_around Flow)) x room
@@ -234,7 +233,7 @@ pub styled_goes : {H A : Type 0} {m : Marking H A} (laws : RoomLaws m) (s : Rend
 styled_goes {m = m} laws s inside goes =
     goes_through _ _ (look_begins laws s) (goes_through _ _ goes (look_ends laws s))
 
-pub placed_goes : {H A : Type 0} {m : Marking H A} (laws : RoomLaws m) (a : Around) (inside : Step H A) (x : Laying H A)
+pub placed_goes : {H A : Type 0} {m : Marking H A} (laws : RoomLaws m) (a : Around) (inside : Step H A) (x : LayoutState H A)
     → Goes inside → Roomy x → IsSomeAnd (placed m a inside x) Roomy
 placed_goes laws Flow inside x goes room = goes x room
 placed_goes {m = m} laws (Items mark columns least) inside x goes room = given_chained Roomy Roomy _ _

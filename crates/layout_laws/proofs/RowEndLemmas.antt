@@ -4,7 +4,7 @@ use Rattle.block_trait.specs.Calls.{step}
 use Rattle.block_trait.specs.Renderers.{Marking, Sub}
 use Rattle.block_laws.specs.RendererLaws.{StaysWithin}
 use Rattle.table_widths.specs.declared.slot.Slot.{Slot}
-use Rattle.layout_state.specs.Laying.{Laying, cells, in_current, in_table, rows}
+use Rattle.layout_state.specs.LayoutState.{LayoutState, cells, in_current, in_table, rows}
 use Rattle.layout_state.specs.declared.around.Around.TheVariants.{Flow}
 use Rattle.layout_tables.specs.Tables.{end_of_row, row_call, row_ended}
 use Rattle.layout_laws.proofs.RowFitLemmas.{seats_of}
@@ -14,22 +14,22 @@ use Rattle.layout_laws.proofs.WidthLemmas.{AreSound, Kept, Steps, WidthLaws, say
 
 end_keeps : {H A : Type 0} {m : Marking H A} (laws : WidthLaws m) (widths : Option (List ℕ))
     (more : List (List Slot)) (fragments : List (List ℕ)) (slots : List Slot) (made : List (Sub H A × ℕ))
-    (x : Laying H A) → AreSound x.parts → x.around ≡ Flow
+    (x : LayoutState H A) → AreSound x.parts → x.around ≡ Flow
     → FitsCells widths more slots made x.parts.current.width (seats_of x.parts.current)
     → IfSome (end_of_row m (cells widths more fragments slots made) x) (Kept (InRows widths) x)
 end_keeps {H} {A} {m} laws widths more fragments slots made x sound flows fits =
     says_there laws (InRows widths) (row_call widths (row_made m widths s slots made))
     (in_table (rows widths more []) x) sound
     (row_call_fits laws.seats m widths more slots made s (λ width. laws.part width s sound.kept.current) fits)
-    behind
+    trailing
   where
     s : Sub H A
     s = x.parts.current
 
-    behind : (new : Sub H A) → StaysWithin s new
+    trailing : (new : Sub H A) → StaysWithin s new
         → step m (row_call widths (row_made m widths s slots made)) s ≡ Some new
         → InRows widths (in_current (in_table (rows widths more []) x) new)
-    behind new inside does = record {
+    trailing new inside does = record {
       slots = more;
       fragments = [];
       flows = flows;

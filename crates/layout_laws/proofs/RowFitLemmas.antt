@@ -1,6 +1,6 @@
 -- A row of cells that fills its slots fits its renderer, and what goes on from it is awaited in the rows below it.
-use Rattle.std.proofs.Common.{◌≡◌, ℕ, ◌+◌, ◌-◌, ◌≤◌, Bool, true, List, [], ◌∷◌, length, map, sum, Option, None, Some}
-use Rattle.std.proofs.Common.{IfSome, refl, sym, ap, subst, ◌∙◌, arith}
+use Rattle.std.proofs.Common.{◌≡◌, ◌+◌, ◌-◌, ◌≤◌, [], ◌∷◌, ◌∙◌, Bool, IfSome, List, None, Option, Some, ap, arith}
+use Rattle.std.proofs.Common.{length, map, refl, subst, sum, sym, true, ℕ}
 use Rattle.std.specs.Option.{option_and_then, option_map}
 use Rattle.block_layout_laws.proofs.OptionLemmas.{chained, mapped}
 use Rattle.block_layout.specs.Laid.{Laid, add_horizontal_border, add_text, flush, mark, start_awaited, start_table}
@@ -11,10 +11,10 @@ use Rattle.block_trait.specs.Calls as calls
 use Rattle.block_trait.specs.Renderers.{Marking, Sub, before_cells, cells_of_subs, measure_of, with_cells, with_laid}
 use Rattle.block_laws.specs.RendererLaws.{RowFits}
 use Rattle.text_borders.specs.Across.{Cell, Hanging, across, seated, width_across}
-use Rattle.text_borders.specs.AcrossLaws.{AreSeatedIn, Seat, cells_width, seat_of, seats_behind}
+use Rattle.text_borders.specs.AcrossLaws.{AreSeatedIn, Seat, cells_width, seat_of, seats_after}
 use Rattle.text_borders.specs.Borders.{Border}
 use Rattle.text_pieces.specs.declared.white_space.WhiteSpace.{WhiteSpace}
-use Rattle.table_widths.specs.Slots.{covered_behind}
+use Rattle.table_widths.specs.Slots.{covered_after}
 use Rattle.table_widths.specs.declared.slot.Slot.{Slot}
 use Rattle.layout_laws.proofs.SeatLemmas.{AreFilled, IsRowFrom, cell_size, cells_seated, cells_within, seats_due}
 use Rattle.layout_laws.proofs.SlotLemmas.{AreDue}
@@ -38,7 +38,7 @@ pub record SeatLaws (S : Type 0) : Type 0 where
       → width_across collapse tag above cells hanging ≡ cells_width cells
   pub seats : (draws collapse : Bool) (tag : S) (above : Option (Border S)) (cells : List (Cell S))
       (hanging : List (Hanging S)) → map (seat_of {S = S}) (across draws collapse tag above cells hanging).hanging
-      ≡ seats_behind 0 (seated 0 cells hanging)
+      ≡ seats_after 0 (seated 0 cells hanging)
 
 -- what goes on in a renderer
 abbrev pub seats_of : {H A : Type 0} → Sub H A → List Seat
@@ -95,34 +95,34 @@ row_fits {H} {A} laws widths slots made s row filled due fits = λ flushed cells
 row_due : {S : Type 0} (laws : SeatLaws S) (widths : List ℕ) (slots : List Slot) (m : Measure) (tag : S) (draws : Bool)
     (cells : List (Cell S)) (b : Laid S) → IsRowFrom widths 0 0 slots → AreFilled cell_size widths slots cells
     → AreDue widths slots (map seat_of b.hanging)
-    → IfSome (add_row m tag draws true cells b) (λ new. AreDue widths (covered_behind slots) (map seat_of new.hanging))
+    → IfSome (add_row m tag draws true cells b) (λ new. AreDue widths (covered_after slots) (map seat_of new.hanging))
 row_due {S = S} laws widths slots m tag draws cells b row filled due =
     by (flush m tag b) refl (laws.flush_hangs m tag b)
   where
     by : (o : Option (Laid S)) → flush m tag b ≡ o → IfSome o (λ new. new.hanging ≡ b.hanging)
         → IfSome (option_map (row_laid m tag draws true cells) o)
-        (λ new. AreDue widths (covered_behind slots) (map seat_of new.hanging))
+        (λ new. AreDue widths (covered_after slots) (map seat_of new.hanging))
     by None e hangs = tt
     by (Some flushed) e hangs =
         let new : Laid S = row_laid m tag draws true cells flushed in
         let same : new.hanging ≡ (across draws true tag (last_border flushed.lines) cells flushed.hanging).hanging =
         laws.row_hangs m tag draws true cells b flushed new e
         (ap (λ (o : Option (Laid S)). option_map (row_laid m tag draws true cells) o) e) in
-        subst (λ (seats : List Seat). AreDue widths (covered_behind slots) seats)
+        subst (λ (seats : List Seat). AreDue widths (covered_after slots) seats)
         (sym (ap (λ (hs : List (Hanging S)). map seat_of hs) same
         ∙ laws.seats draws true tag (last_border flushed.lines) cells flushed.hanging))
         (seats_due widths 0 0 slots cells flushed.hanging row filled
         (subst (λ (hs : List (Hanging S)). AreDue widths slots (map seat_of hs)) (sym hangs) due))
 
-pub behind_row : {H A : Type 0} (m : Marking H A) (laws : SeatLaws (List A)) (widths : List ℕ) (slots : List Slot)
+pub after_row : {H A : Type 0} (m : Marking H A) (laws : SeatLaws (List A)) (widths : List ℕ) (slots : List Slot)
     (made : List (Sub H A × ℕ)) (s : Sub H A) → IsRowFrom widths 0 0 slots → AreFilled sub_size widths slots made
     → AreDue widths slots (seats_of s)
-    → IfSome (step m (calls.adds_cells made true) s) (λ new. AreDue widths (covered_behind slots) (seats_of new))
-behind_row {H} {A} m laws widths slots made s row filled due =
-    chained (AreFilled cell_size widths slots) (λ (new : Sub H A). AreDue widths (covered_behind slots) (seats_of new))
+    → IfSome (step m (calls.adds_cells made true) s) (λ new. AreDue widths (covered_after slots) (seats_of new))
+after_row {H} {A} m laws widths slots made s row filled due =
+    chained (AreFilled cell_size widths slots) (λ (new : Sub H A). AreDue widths (covered_after slots) (seats_of new))
     (with_cells true s) (cells_of_subs made)
-    (λ cells full. mapped (λ (b : Laid (List A)). AreDue widths (covered_behind slots) (map seat_of b.hanging))
-    (λ (new : Sub H A). AreDue widths (covered_behind slots) (seats_of new)) (with_laid s)
+    (λ cells full. mapped (λ (b : Laid (List A)). AreDue widths (covered_after slots) (map seat_of b.hanging))
+    (λ (new : Sub H A). AreDue widths (covered_after slots) (seats_of new)) (with_laid s)
     (add_row (measure_of s) s.annotations s.options.draw_borders true cells s.laid) (λ b d. d)
     (row_due laws widths slots (measure_of s) s.annotations s.options.draw_borders cells s.laid row full due))
     (cells_filled widths slots made filled)

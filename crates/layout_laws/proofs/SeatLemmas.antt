@@ -1,15 +1,15 @@
 -- Cells that are handed in for the slots of a row: those that go on are seated in their own slots, so the row is within
 -- the columns, and what goes on from it is awaited in the next one.
-use Rattle.std.proofs.Common.{◌≡◌, ℕ, ◌+◌, ◌-◌, ◌<◌, ◌≤◌, inl, inr, max, Bool, true, false, nat_le, List, [], ◌∷◌, ◌++◌}
-use Rattle.std.proofs.Common.{length, map, sum, refl, sym, ap, subst, ◌∙◌, arith}
+use Rattle.std.proofs.Common.{◌≡◌, ◌+◌, ◌-◌, ◌<◌, ◌≤◌, [], ◌∷◌, ◌++◌, ◌∙◌, Bool, List, ap, arith, false, inl, inr}
+use Rattle.std.proofs.Common.{length, map, max, nat_le, refl, subst, sum, sym, true, ℕ}
 use Rattle.std.specs.Prelude.{if◌then◌else◌}
 use Rattle.std.specs.List.{AllByRecursion}
 use Rattle.std.proofs.lemmas.Bool.Decides.{nat_tests}
 use Rattle.text_borders.specs.Across.{Cell, Hanging, seated}
-use Rattle.text_borders.specs.AcrossLaws.{AreSeatedIn, cells_width, seat_of, seats_behind}
-use Rattle.table_widths.specs.Slots.{covered_behind}
+use Rattle.text_borders.specs.AcrossLaws.{AreSeatedIn, cells_width, seat_of, seats_after}
+use Rattle.table_widths.specs.Slots.{covered_after}
 use Rattle.table_widths.specs.declared.slot.Slot.{Slot}
-use Rattle.layout_laws.proofs.SlotLemmas.{AreDue, AreShort, StandBy, due_behind, due_further, slot_spans, start_of}
+use Rattle.layout_laws.proofs.SlotLemmas.{AreDue, AreShort, StandBy, due_after, due_further, slot_spans, start_of}
 use Rattle.layout_laws.proofs.SlotLemmas.{start_within, width_in}
 
 -- ---- what is handed in
@@ -22,14 +22,14 @@ AreFilled size widths (s ∷ slots) [] = ⊥
 AreFilled size widths (s ∷ slots) (x ∷ xs) =
     (((size x).0 ≡ width_in widths s) × ((size x).1 ≤ max 1 s.rows)) × AreFilled size widths slots xs
 
-pub filled_behind : {X : Type 0} (size : X → ℕ × ℕ) (widths : List ℕ) (slots further : List Slot) (xs ys : List X)
+pub filled_after : {X : Type 0} (size : X → ℕ × ℕ) (widths : List ℕ) (slots further : List Slot) (xs ys : List X)
     → AreFilled size widths slots xs → AreFilled size widths further ys
     → AreFilled size widths (slots ++ further) (xs ++ ys)
-filled_behind size widths [] further [] ys one other = other
-filled_behind size widths [] further (x ∷ xs) ys one other = absurd one
-filled_behind size widths (s ∷ slots) further [] ys one other = absurd one
-filled_behind size widths (s ∷ slots) further (x ∷ xs) ys one other =
-    (one.0, filled_behind size widths slots further xs ys one.1 other)
+filled_after size widths [] further [] ys one other = other
+filled_after size widths [] further (x ∷ xs) ys one other = absurd one
+filled_after size widths (s ∷ slots) further [] ys one other = absurd one
+filled_after size widths (s ∷ slots) further (x ∷ xs) ys one other =
+    (one.0, filled_after size widths slots further xs ys one.1 other)
 
 abbrev pub cell_size : {S : Type 0} → Cell S → ℕ × ℕ
 cell_size c = (c.width, c.rows)
@@ -76,7 +76,7 @@ cells_seated widths from at (s ∷ slots) (c ∷ cells) (h ∷ hanging) row fill
 cells_seated widths from at (s ∷ slots) (c ∷ cells) (h ∷ hanging) row filled (inr due) =
     let on : IsRowFrom widths s.last (at + c.width + 1) slots =
     row_on widths from at c.width s slots row filled.0.0 in inr (
-      omega (arith, on.starts, due_behind widths s.last slots (seat_of h) (map seat_of hanging) on.stand due),
+      omega (arith, on.starts, due_after widths s.last slots (seat_of h) (map seat_of hanging) on.stand due),
       cells_seated widths s.last (at + c.width + 1) slots cells (h ∷ hanging) on filled.1 due,
     )
 
@@ -120,15 +120,15 @@ not_here n k less = grind (arith, nat_tests, less)
 pub seats_due : {S : Type 0} (widths : List ℕ) (from at : ℕ) (slots : List Slot) (cells : List (Cell S))
     (hanging : List (Hanging S)) → IsRowFrom widths from at slots → AreFilled cell_size widths slots cells
     → AreDue widths slots (map seat_of hanging)
-    → AreDue widths (covered_behind slots) (seats_behind at (seated at cells hanging))
+    → AreDue widths (covered_after slots) (seats_after at (seated at cells hanging))
 seats_due widths from at [] [] [] row filled due = tt
 seats_due widths from at [] [] (h ∷ hanging) row filled due = absurd due
 seats_due widths from at [] (c ∷ cells) hanging row filled due = absurd filled
 seats_due widths from at (s ∷ slots) [] hanging row filled due = absurd filled
 seats_due {S = S} widths from at (s ∷ slots) (c ∷ cells) [] row filled due =
-    due_further widths s slots at c.width c.rows (seats_behind (at + c.width + 1) cells)
+    due_further widths s slots at c.width c.rows (seats_after (at + c.width + 1) cells)
     (row.starts ∙ ap (λ (n : ℕ). start_of widths n) (sym row.stand.0)) filled.0.0 filled.0.1 row.stand.1.0
-    (subst (λ (cs : List (Cell S)). AreDue widths (covered_behind slots) (seats_behind (at + c.width + 1) cs))
+    (subst (λ (cs : List (Cell S)). AreDue widths (covered_after slots) (seats_after (at + c.width + 1) cs))
     (sym (none_seated (at + c.width + 1) cells))
     (seats_due widths s.last (at + c.width + 1) slots cells []
     (row_on widths from at c.width s slots row filled.0.0) filled.1 (none slots)))
@@ -136,27 +136,27 @@ seats_due {S = S} widths from at (s ∷ slots) (c ∷ cells) [] row filled due =
     none : (slots : List Slot) → AreDue widths slots []
     none slots = tt
 seats_due widths from at (s ∷ slots) (c ∷ cells) (h ∷ hanging) row filled (inl due) =
-    subst (λ (t : Bool). AreDue widths (covered_behind (s ∷ slots)) (seats_behind at
+    subst (λ (t : Bool). AreDue widths (covered_after (s ∷ slots)) (seats_after at
     (if t then h.cell ∷ seated (at + c.width + 1) cells hanging
     else c ∷ seated (at + c.width + 1) cells (h ∷ hanging))))
     (here h.place at (omega (arith, due.0.1.0, row.starts, ap (λ (n : ℕ). start_of widths n) row.stand.0)))
     (due_further widths s slots at h.cell.width h.cell.rows
-    (seats_behind (at + h.cell.width + 1) (seated (at + c.width + 1) cells hanging))
+    (seats_after (at + h.cell.width + 1) (seated (at + c.width + 1) cells hanging))
     (row.starts ∙ ap (λ (n : ℕ). start_of widths n) (sym row.stand.0)) due.0.1.1.0
     (omega (arith, due.0.1.1.1)) row.stand.1.0
-    (subst (λ (n : ℕ). AreDue widths (covered_behind slots)
-    (seats_behind (at + n + 1) (seated (at + c.width + 1) cells hanging))) (filled.0.0 ∙ sym due.0.1.1.0)
+    (subst (λ (n : ℕ). AreDue widths (covered_after slots)
+    (seats_after (at + n + 1) (seated (at + c.width + 1) cells hanging))) (filled.0.0 ∙ sym due.0.1.1.0)
     (seats_due widths s.last (at + c.width + 1) slots cells hanging
     (row_on widths from at c.width s slots row filled.0.0) filled.1 due.1)))
 seats_due widths from at (s ∷ slots) (c ∷ cells) (h ∷ hanging) row filled (inr due) =
     let on : IsRowFrom widths s.last (at + c.width + 1) slots =
     row_on widths from at c.width s slots row filled.0.0 in
-    subst (λ (t : Bool). AreDue widths (covered_behind (s ∷ slots)) (seats_behind at
+    subst (λ (t : Bool). AreDue widths (covered_after (s ∷ slots)) (seats_after at
     (if t then h.cell ∷ seated (at + c.width + 1) cells hanging
     else c ∷ seated (at + c.width + 1) cells (h ∷ hanging))))
     (not_here h.place at
-    (omega (arith, on.starts, due_behind widths s.last slots (seat_of h) (map seat_of hanging) on.stand due)))
+    (omega (arith, on.starts, due_after widths s.last slots (seat_of h) (map seat_of hanging) on.stand due)))
     (due_further widths s slots at c.width c.rows
-    (seats_behind (at + c.width + 1) (seated (at + c.width + 1) cells (h ∷ hanging)))
+    (seats_after (at + c.width + 1) (seated (at + c.width + 1) cells (h ∷ hanging)))
     (row.starts ∙ ap (λ (n : ℕ). start_of widths n) (sym row.stand.0)) filled.0.0 filled.0.1 row.stand.1.0
     (seats_due widths s.last (at + c.width + 1) slots cells (h ∷ hanging) on filled.1 due))

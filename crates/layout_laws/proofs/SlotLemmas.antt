@@ -1,7 +1,7 @@
 -- Slots of a row: the columns of text at which they begin and that they take, and cells from above that stand in them.
-use Rattle.std.proofs.Common.{◌≡◌, ℕ, ◌+◌, ◌-◌, ◌^◌, ◌<◌, ◌≤◌, ◌⊎◌, inl, inr, max, Bool, true, false, cond, nat_lt}
-use Rattle.std.proofs.Common.{List, [], ◌∷◌, ◌++◌, length, take, drop, map, filter, sum, refl, sym, ap, subst, ◌∙◌}
-use Rattle.std.proofs.Common.{arith, take-add, take_all}
+use Rattle.std.proofs.Common.{◌≡◌, ◌+◌, ◌-◌, ◌^◌, ◌<◌, ◌≤◌, ◌⊎◌, [], ◌∷◌, ◌++◌, ◌∙◌, Bool, List, ap, arith, cond, drop}
+use Rattle.std.proofs.Common.{false, filter, inl, inr, length, map, max, nat_lt, refl, subst, sum, sym, take, take-add}
+use Rattle.std.proofs.Common.{take_all, true, ℕ}
 use Rattle.std.specs.Prelude.{if◌then◌else◌, ◌&&◌, ◌||◌}
 use Rattle.std.specs.List.{AllByRecursion, list_any}
 use Rattle.std.proofs.lemmas.Bool.Decides.{nat_tests}
@@ -9,7 +9,7 @@ use Rattle.std.proofs.lemmas.List.{length-take, length-drop}
 use Rattle.std.proofs.lemmas.List.Sums.{sum_by-append}
 use Rattle.text_borders.specs.AcrossLaws.{Seat}
 use Rattle.table_widths.specs.RowLaws.{IsWhole, StandFrom}
-use Rattle.table_widths.specs.Slots.{across, covered, covered_behind, goes_on, has_columns, is_shown, merged}
+use Rattle.table_widths.specs.Slots.{across, covered, covered_after, goes_on, has_columns, is_shown, merged}
 use Rattle.table_widths.specs.declared.slot.Slot.{Slot}
 use Rattle.layout_tables.specs.Tables.{separated}
 use Rattle.layout_laws.proofs.MergedLemmas.{IsMerged, each_merged, merging, one, other, over}
@@ -91,15 +91,15 @@ live_each P (s ∷ slots) h = by (has_columns s) (live_each P slots h.1)
     by true rest = (h.0, rest)
     by false rest = rest
 
-pub live_covered : (slots : List Slot) → covered_behind (live slots) ≡ covered_behind slots
+pub live_covered : (slots : List Slot) → covered_after (live slots) ≡ covered_after slots
 live_covered [] = refl
 live_covered (s ∷ slots) = by (has_columns s) refl (live_covered slots)
   where
-    by : (b : Bool) → has_columns s ≡ b → covered_behind (live slots) ≡ covered_behind slots
-        → covered_behind (cond b (s ∷ live slots) (live slots)) ≡ covered_behind (s ∷ slots)
+    by : (b : Bool) → has_columns s ≡ b → covered_after (live slots) ≡ covered_after slots
+        → covered_after (cond b (s ∷ live slots) (live slots)) ≡ covered_after (s ∷ slots)
     by true e rest = further (goes_on s) rest
       where
-        further : (g : Bool) → covered_behind (live slots) ≡ covered_behind slots
+        further : (g : Bool) → covered_after (live slots) ≡ covered_after slots
             → map covered (cond g (s ∷ filter goes_on (live slots)) (filter goes_on (live slots)))
             ≡ map covered (cond g (s ∷ filter goes_on slots) (filter goes_on slots))
         further true rest = ap (λ (ss : List Slot). covered s ∷ ss) rest
@@ -160,27 +160,27 @@ due_live widths (s ∷ slots) (h ∷ seats) due = by (has_columns s) refl due
     by false e (inr d) rest = rest (h ∷ seats) d
 
 -- none stands before the column from which on the slots stand
-pub due_behind : (widths : List ℕ) (from : ℕ) (slots : List Slot) (h : Seat) (seats : List Seat) → StandBy from slots
+pub due_after : (widths : List ℕ) (from : ℕ) (slots : List Slot) (h : Seat) (seats : List Seat) → StandBy from slots
     → AreDue widths slots (h ∷ seats) → start_of widths from ≤ h.place
-due_behind widths from [] h seats stand due = absurd due
-due_behind widths from (s ∷ slots) h seats stand (inl due) =
+due_after widths from [] h seats stand due = absurd due
+due_after widths from (s ∷ slots) h seats stand (inl due) =
     omega (arith, due.0.1.0, ap (λ (n : ℕ). start_of widths n) stand.0)
-due_behind widths from (s ∷ slots) h seats stand (inr due) = omega (
+due_after widths from (s ∷ slots) h seats stand (inr due) = omega (
   arith,
-  due_behind widths s.last slots h seats stand.1.1 due,
+  due_after widths s.last slots h seats stand.1.1 due,
   start_rises widths from s.last (omega (arith, stand.0, stand.1.0)),
 )
 
 -- the seat of a cell after its row, where it goes on
-abbrev pub seat_behind : (place width rows : ℕ) → List Seat
-seat_behind place width rows =
+abbrev pub seat_after : (place width rows : ℕ) → List Seat
+seat_after place width rows =
     if nat_lt 1 rows then (record { place = place; width = width; rows = rows - 1 }) ∷ [] else []
 
 -- A cell that goes on does so in the place of its slot, one row further down.
 pub due_further : (widths : List ℕ) (s : Slot) (slots : List Slot) (place width rows : ℕ) (seats : List Seat)
     → place ≡ start_of widths s.first → width ≡ width_in widths s → rows ≤ max 1 s.rows → s.first < s.last
-    → AreDue widths (covered_behind slots) seats
-    → AreDue widths (covered_behind (s ∷ slots)) (seat_behind place width rows ++ seats)
+    → AreDue widths (covered_after slots) seats
+    → AreDue widths (covered_after (s ∷ slots)) (seat_after place width rows ++ seats)
 due_further widths s slots place width rows seats at is few some due =
     by (nat_lt 1 rows) refl (goes_on s) refl
   where
@@ -192,7 +192,7 @@ due_further widths s slots place width rows seats at is few some due =
         more : nat_lt 1 rows ≡ true → 1 < rows
         more e = grind (arith, nat_tests)
     by true e false f = absurd (grind (arith, nat_tests, some, few))
-    by false e true f = due_more widths (covered s) (covered_behind slots) seats due
+    by false e true f = due_more widths (covered s) (covered_after slots) seats due
     by false e false f = due
 
 -- ---- rows
@@ -211,7 +211,7 @@ abbrev pub RowsFit : List ℕ → List (List Slot) → List Seat → Type 0
 RowsFit widths [] seats = Unit {0}
 RowsFit widths (row ∷ rows) seats = (is_shown row ≡ true → IsSoundRow (length widths) row
     × (AreDue widths (live row) seats
-    × ((further : List Seat) → AreDue widths (covered_behind row) further → RowsFit widths rows further)))
+    × ((further : List Seat) → AreDue widths (covered_after row) further → RowsFit widths rows further)))
     × (is_shown row ≡ false → RowsFit widths rows seats)
 
 any_merged : {own above whole : List Slot} (test : Slot → Bool) → IsMerged own above whole → list_any test own ≡ true
@@ -229,11 +229,11 @@ any_merged test (other {s} {t} {slots} {others} {rest} first m) e = by (test t) 
     by true e = refl
     by false e = e
 
-covered_full : (slots : List Slot) → AllByRecursion IsFull (covered_behind slots)
+covered_full : (slots : List Slot) → AllByRecursion IsFull (covered_after slots)
 covered_full [] = tt
 covered_full (s ∷ slots) = by (goes_on s) refl (covered_full slots)
   where
-    by : (b : Bool) → goes_on s ≡ b → AllByRecursion IsFull (covered_behind slots)
+    by : (b : Bool) → goes_on s ≡ b → AllByRecursion IsFull (covered_after slots)
         → AllByRecursion IsFull (map covered (cond b (s ∷ filter goes_on slots) (filter goes_on slots)))
     by true e rest = (inr (grind (arith, nat_tests)), rest)
     by false e rest = rest
@@ -254,17 +254,17 @@ rows_fit widths (row ∷ rows) above seats own from whole due = by (is_shown row
 
     by : (b : Bool) → is_shown row ≡ b
         → AllByRecursion (λ row. is_shown row ≡ true → IsWhole (length widths) row)
-        (if b then all ∷ across (covered_behind all) rows else row ∷ across above rows)
+        (if b then all ∷ across (covered_after all) rows else row ∷ across above rows)
         → ((above : List Slot) (seats : List Seat) → AllByRecursion IsFull above
         → AllByRecursion (λ row. is_shown row ≡ true → IsWhole (length widths) row) (across above rows)
         → AreDue widths above seats → RowsFit widths (across above rows) seats)
-        → RowsFit widths (if b then all ∷ across (covered_behind all) rows else row ∷ across above rows) seats
+        → RowsFit widths (if b then all ∷ across (covered_after all) rows else row ∷ across above rows) seats
     by true e whole rest = (
       (λ shown. (
         record { whole = whole.0 shown; full = each_merged IsFull (merging row above) own.0 from },
         (
           due_live widths all seats (due_merged widths (merging row above) seats due),
-          (λ further due. rest (covered_behind all) further (covered_full all) whole.1 due),
+          (λ further due. rest (covered_after all) further (covered_full all) whole.1 due),
         ),
       )),
       (λ hidden. absurd (both (is_shown all)

@@ -19,13 +19,13 @@ use Rattle.render_values.specs.declared.info.Head.{Head}
 use Rattle.render_values.specs.declared.info.RenderInfo.{RenderInfo}
 use Rattle.render_values.specs.declared.info.RenderInfo.TheVariants as infos
 use Rattle.layout_state.specs.Begins.{following, named}
-use Rattle.layout_state.specs.Laying.{Laying, Step, TablePlace, cells, goes_to, in_turn, outside, rows, says}
+use Rattle.layout_state.specs.LayoutState.{LayoutState, Step, TablePlace, cells, goes_to, in_turn, outside, rows, says}
 use Rattle.layout_values.specs.Lay.{Content, among_cells, among_rows, content_of, holds, in_its_group, in_its_row}
 use Rattle.layout_values.specs.Lay.{in_its_slot, laid, laid_at, lay, on_page, shown, styled}
 use Rattle.layout_tables.specs.Tables.{border_call, cell_begun, cell_ended, cell_laid, columns_laid, empties_before}
-use Rattle.layout_tables.specs.Tables.{empty_slot, empty_slots, end_of_row, fence, from_cell, in_cell, in_slot, is_fenced}
-use Rattle.layout_tables.specs.Tables.{renderer_of, row_begun, row_call, row_ended, rows_laid, rows_of, slot_width}
-use Rattle.layout_tables.specs.Tables.{start_all, table_begun, table_ended, table_laid, top_border}
+use Rattle.layout_tables.specs.Tables.{empty_slot, empty_slots, end_of_row, fence, from_cell, in_cell, in_slot}
+use Rattle.layout_tables.specs.Tables.{is_fenced, renderer_of, row_begun, row_call, row_ended, rows_laid, rows_of}
+use Rattle.layout_tables.specs.Tables.{slot_width, start_all, table_begun, table_ended, table_laid, top_border}
 use Rattle.layout_laws.proofs.RoomLemmas.{Goes, RoomAt, RoomLaws, Roomy, begins_goes, either_goes, ends_goes}
 use Rattle.layout_laws.proofs.RoomLemmas.{following_goes, goes_by, goes_there, goes_through, leading_goes, list_goes}
 use Rattle.layout_laws.proofs.RoomLemmas.{named_goes, part_goes, placed_goes, prefix_goes, says_goes, styled_goes}
@@ -88,7 +88,7 @@ row_has : {H A : Type 0} (widths : Option (List ℕ)) (made : List (Sub H A × �
 row_has None made has = All-map HasRoom renderer_of made has
 row_has (Some widths) made has = has
 
-end_goes : {H A : Type 0} {m : Marking H A} (laws : RoomLaws m) (place : TablePlace H A) (x : Laying H A)
+end_goes : {H A : Type 0} {m : Marking H A} (laws : RoomLaws m) (place : TablePlace H A) (x : LayoutState H A)
     → RoomAt place → Roomy x → IsSomeAnd (end_of_row m place x) Roomy
 end_goes laws (outside in_cell) x at room = room
 end_goes laws (rows widths slots fragments) x at room = room
@@ -128,7 +128,7 @@ cell_ends {H} {A} outer widths more slots made taken has all x room = (
 )
 
 slot_goes : {H A : Type 0} {m : Marking H A} (laws : RoomLaws m) (widths : Option (List ℕ)) (more : List (List Slot))
-    (fragments : List (List ℕ)) (slots : List Slot) (made : List (Sub H A × ℕ)) (inside : Step H A) (x : Laying H A)
+    (fragments : List (List ℕ)) (slots : List Slot) (made : List (Sub H A × ℕ)) (inside : Step H A) (x : LayoutState H A)
     → Goes inside → All (λ c. HasRoom c.0) made → Roomy x
     → IsSomeAnd (in_slot m widths more fragments slots made inside x) Roomy
 slot_goes laws widths more fragments [] made inside x goes all room = (room.0, all)
@@ -143,7 +143,7 @@ slot_goes {m = m} laws widths more fragments (s ∷ slots) made inside x goes al
     by_test false = (room.0, all)
 
 cell_goes : {H A : Type 0} {m : Marking H A} (laws : RoomLaws m) (widths : Option (List ℕ)) (more : List (List Slot))
-    (fragments : List (List ℕ)) (slots : List Slot) (made : List (Sub H A × ℕ)) (inside : Step H A) (x : Laying H A)
+    (fragments : List (List ℕ)) (slots : List Slot) (made : List (Sub H A × ℕ)) (inside : Step H A) (x : LayoutState H A)
     → Goes inside → All (λ c. HasRoom c.0) made → Roomy x
     → IsSomeAnd (cell_laid m widths more fragments slots made inside x) Roomy
 unfolding cell_laid
@@ -193,7 +193,7 @@ shown_goes {m = m} laws head c inside goes = goes_through _ _ (leading_goes laws
     (goes_through _ _ (following_goes laws head) goes)) (ends_goes laws head.info)))
 
 in_slot_goes : {H A : Type 0} {m : Marking H A} (laws : RoomLaws m) (head : Head) (place : TablePlace H A)
-    (inside : Step H A) (x : Laying H A) → Goes inside → RoomAt place → Roomy x
+    (inside : Step H A) (x : LayoutState H A) → Goes inside → RoomAt place → Roomy x
     → IsSomeAnd (in_its_slot m head place inside x) Roomy
 in_slot_goes laws head (outside in_cell) inside x goes at room = room
 in_slot_goes laws head (rows widths slots fragments) inside x goes at room = room
@@ -256,7 +256,7 @@ among_go laws infos.TableRow head widths slots fragments inside goes =
 among_go laws (infos.TableCell columns taken) head widths slots fragments inside goes = goes_by
 
 among_cells_go : {H A : Type 0} {m : Marking H A} (laws : RoomLaws m) (info : RenderInfo) (head : Head)
-    (place : TablePlace H A) (inside : Step H A) (x : Laying H A) → Goes inside → RoomAt place → Roomy x
+    (place : TablePlace H A) (inside : Step H A) (x : LayoutState H A) → Goes inside → RoomAt place → Roomy x
     → IsSomeAnd (among_cells m info head place inside x) Roomy
 among_cells_go laws infos.Nothing head place inside x goes at room = room
 among_cells_go laws (infos.Text cs) head place inside x goes at room = room
@@ -286,7 +286,7 @@ among_cells_go laws (infos.TableCell columns taken) head place inside x goes at 
     in_slot_goes laws head place inside x goes at room
 
 laid_goes : {H A : Type 0} {m : Marking H A} (laws : RoomLaws m) (head : Head) (c : Content) (place : TablePlace H A)
-    (inside : Step H A) (x : Laying H A) → Goes inside → RoomAt place → Roomy x
+    (inside : Step H A) (x : LayoutState H A) → Goes inside → RoomAt place → Roomy x
     → IsSomeAnd (laid_at m head c place inside x) Roomy
 laid_goes {m = m} laws head c (outside in_cell) inside x goes at room =
     placed_goes laws x.around (styled m head.style (shown m head c inside)) x
@@ -308,5 +308,5 @@ lay_goes {m = m} laws w (value head inside rest) x room = given_chained Roomy Ro
 
 pub parts_laid : {H A : Type 0} {m : Marking H A} (laws : RoomLaws m) (w : Measure) (values : Values) (p : Parts H A)
     → HaveRoom p → IsSomeAnd (option_map (λ l. l.parts) (lay m w values (on_page p))) HaveRoom
-parts_laid {H} {A} {m} laws w values p room = given_mapped Roomy HaveRoom (λ (l : Laying H A). l.parts)
+parts_laid {H} {A} {m} laws w values p room = given_mapped Roomy HaveRoom (λ (l : LayoutState H A). l.parts)
     (lay m w values (on_page p)) (λ l h. h.0) (lay_goes laws w values (on_page p) (room, tt))

@@ -4,9 +4,9 @@
 -- shown, of all its slots with columns the first ones are filled by what stands in it, each as wide as its slot and for
 -- no more rows; the others are those that are left. Below one another, each that stands in a row is as wide as the
 -- renderer.
-use Rattle.std.proofs.Common.{◌≡◌, ℕ, zero, suc, ◌+◌, ◌-◌, ◌<◌, ◌≤◌, inl, inr, Bool, true, false, cond, List, []}
-use Rattle.std.proofs.Common.{◌∷◌, ◌++◌, length, take, drop, sum, Option, None, Some, IfSome, All, refl, sym, ap, subst}
-use Rattle.std.proofs.Common.{◌∙◌, arith, append_assoc}
+use Rattle.std.proofs.Common.{◌≡◌, ◌+◌, ◌-◌, ◌<◌, ◌≤◌, [], ◌∷◌, ◌++◌, ◌∙◌, All, Bool, IfSome, List, None, Option, Some}
+use Rattle.std.proofs.Common.{ap, append_assoc, arith, cond, drop, false, inl, inr, length, refl, subst, suc, sum, sym}
+use Rattle.std.proofs.Common.{take, true, zero, ℕ}
 use Rattle.std.specs.List.{AllByRecursion, prefix_len}
 use Rattle.std.proofs.lemmas.Bool.Decides.{nat_tests}
 use Rattle.std.proofs.lemmas.List.{take-append-drop}
@@ -18,16 +18,16 @@ use Rattle.block_trait.specs.Renderers.{Marking, Sub}
 use Rattle.block_laws.specs.RendererLaws.{CallFits, IsKeptWithin}
 use Rattle.text_borders.specs.AcrossLaws.{Seat}
 use Rattle.table_widths.specs.RowLaws.{AreWholeRows, IsWhole}
-use Rattle.table_widths.specs.Slots.{Table, across, covered_behind, has_columns, is_shown}
+use Rattle.table_widths.specs.Slots.{Table, across, covered_after, has_columns, is_shown}
 use Rattle.table_widths.specs.declared.slot.Slot.{Slot}
 use Rattle.layout_tables.specs.Tables.{empties_before, empty_slot, empty_slots, from_cell, is_empty_slot, renderer_of}
 use Rattle.layout_tables.specs.Tables.{row_call, rows_of, slot_width}
 use Rattle.render_sizes.specs.Extents.{capped}
 use Rattle.layout_laws.proofs.MergedLemmas.{each_at}
-use Rattle.layout_laws.proofs.RowFitLemmas.{SeatLaws, behind_row, row_fits, seats_of, some_known, sub_size}
-use Rattle.layout_laws.proofs.SeatLemmas.{AreFilled, IsRowFrom, filled_behind}
-use Rattle.layout_laws.proofs.SlotLemmas.{AreDue, IsFull, IsSoundRow, RowsFit, live, live_covered, live_each, live_stand}
-use Rattle.layout_laws.proofs.SlotLemmas.{rows_fit}
+use Rattle.layout_laws.proofs.RowFitLemmas.{SeatLaws, after_row, row_fits, seats_of, some_known, sub_size}
+use Rattle.layout_laws.proofs.SeatLemmas.{AreFilled, IsRowFrom, filled_after}
+use Rattle.layout_laws.proofs.SlotLemmas.{AreDue, IsFull, IsSoundRow, RowsFit, live, live_covered, live_each}
+use Rattle.layout_laws.proofs.SlotLemmas.{live_stand, rows_fit}
 
 -- ---- tables
 
@@ -71,7 +71,7 @@ pub record CellsFit {H A : Type 0} (widths : List ℕ) (more : List (List Slot))
   pub row : List Slot
   pub sound : IsSoundRow (length widths) row
   pub due : AreDue widths (live row) seats
-  pub next : (further : List Seat) → AreDue widths (covered_behind row) further → RowsFit widths more further
+  pub next : (further : List Seat) → AreDue widths (covered_after row) further → RowsFit widths more further
   pub kept : All (λ c. IsKeptWithin c.0) made
   pub front : List Slot
   pub split : live row ≡ front ++ live slots
@@ -141,7 +141,7 @@ made_fits {H} {A} (Some widths) more s slots made width seats t fits some kept i
   front = fits.front ++ s ∷ [];
   split = fits.split ∙ ap (λ (b : Bool). fits.front ++ cond b (s ∷ live slots) (live slots)) some
       ∙ sym (append_assoc fits.front (s ∷ []) (live slots));
-  filled = filled_behind sub_size widths fits.front (s ∷ []) made ((t, s.rows) ∷ []) fits.filled
+  filled = filled_after sub_size widths fits.front (s ∷ []) made ((t, s.rows) ∷ []) fits.filled
       ((is, omega arith), tt);
   full = fits.full.1;
 }
@@ -190,10 +190,10 @@ empties_some (s ∷ slots) full = by (is_empty_slot s) refl (empties_some slots 
     by false e rest = subst (λ (n : ℕ). AllByRecursion (λ s. s.first < s.last) (take n (s ∷ slots)))
         (prefix_no s slots e) tt
 
-each_behind : (P : Slot → Type 0) (n : ℕ) (slots : List Slot) → AllByRecursion P slots → AllByRecursion P (drop n slots)
-each_behind P zero slots h = h
-each_behind P (suc n) [] h = tt
-each_behind P (suc n) (s ∷ slots) h = each_behind P n slots h.1
+each_after : (P : Slot → Type 0) (n : ℕ) (slots : List Slot) → AllByRecursion P slots → AllByRecursion P (drop n slots)
+each_after P zero slots h = h
+each_after P (suc n) [] h = tt
+each_after P (suc n) (s ∷ slots) h = each_after P n slots h.1
 
 live_parts : (slots : List Slot) → AllByRecursion IsFull slots
     → live slots ≡ empties_before slots ++ live (from_cell slots)
@@ -236,10 +236,10 @@ empties_fit {H} {A} m (Some widths) more slots made s seats part fits = record {
   front = fits.front ++ empties_before slots;
   split = fits.split ∙ ap (λ (ss : List Slot). fits.front ++ ss) (live_parts slots fits.full)
       ∙ sym (append_assoc fits.front (empties_before slots) (live (from_cell slots)));
-  filled = filled_behind sub_size widths fits.front (empties_before slots) made
+  filled = filled_after sub_size widths fits.front (empties_before slots) made
       (empty_slots m (Some widths) s (empties_before slots)) fits.filled
       (fill_empties m widths s (empties_before slots));
-  full = each_behind IsFull (prefix_len is_empty_slot slots) slots fits.full;
+  full = each_after IsFull (prefix_len is_empty_slot slots) slots fits.full;
 }
 
 -- ---- the row's end
@@ -267,7 +267,7 @@ row_filled : {H A : Type 0} (m : Marking H A) (widths : List ℕ) (more : List (
     → AreFilled sub_size widths (live fits.row) (row_made m (Some widths) s slots made)
 row_filled m widths more slots made s seats fits =
     subst (λ (ss : List Slot). AreFilled sub_size widths ss (row_made m (Some widths) s slots made)) (sym fits.split)
-    (filled_behind sub_size widths fits.front (live slots) made (empty_slots m (Some widths) s (live slots)) fits.filled
+    (filled_after sub_size widths fits.front (live slots) made (empty_slots m (Some widths) s (live slots)) fits.filled
     (fill_empties m widths s (live slots)))
 
 pub row_call_fits : {H A : Type 0} (laws : SeatLaws (List A)) (m : Marking H A) (widths : Option (List ℕ))
@@ -297,9 +297,9 @@ row_leaves {H} {A} laws m (Some widths) more slots made s new fits does = (
   fits.fits,
   fits.next (seats_of new)
       (subst (λ (ss : List Slot). AreDue widths ss (seats_of new)) (live_covered fits.row)
-      (some_known (λ (new : Sub H A). AreDue widths (covered_behind (live fits.row)) (seats_of new))
+      (some_known (λ (new : Sub H A). AreDue widths (covered_after (live fits.row)) (seats_of new))
       (step m (row_call (Some widths) (row_made m (Some widths) s slots made)) s) new does
-      (behind_row m laws widths (live fits.row) (row_made m (Some widths) s slots made) s
+      (after_row m laws widths (live fits.row) (row_made m (Some widths) s slots made) s
       (row_from widths more slots made s.width (seats_of s) fits)
       (row_filled m widths more slots made s (seats_of s) fits) fits.due))),
 )

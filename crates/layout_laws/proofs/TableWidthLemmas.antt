@@ -1,6 +1,6 @@
 -- Tables keep the width: their rows, across and below one another, and the cells of these.
-use Rattle.std.proofs.Common.{◌≡◌, ℕ, Bool, true, false, nat_lt, List, [], ◌∷◌, map, Option, None, Some}
-use Rattle.std.proofs.Common.{IfSome, refl, sym, ap, subst, ◌∙◌, arith}
+use Rattle.std.proofs.Common.{◌≡◌, [], ◌∷◌, ◌∙◌, Bool, IfSome, List, None, Option, Some, ap, arith, false, map, nat_lt}
+use Rattle.std.proofs.Common.{refl, subst, sym, true, ℕ}
 use Rattle.std.specs.Prelude.{codes, if◌then◌else◌}
 use Rattle.std.specs.Option.{option_and_then}
 use Rattle.block_layout_laws.proofs.OptionLemmas.{chained, mapped}
@@ -11,8 +11,8 @@ use Rattle.render_sizes.specs.Extents.{capped}
 use Rattle.block_trait.specs.Calls.{Call, step}
 use Rattle.block_trait.specs.Calls as calls
 use Rattle.block_trait.specs.Renderers.{Marking, Sub, begin_colour, finish_colour, measure_of, mode_of, on_laid}
-use Rattle.block_trait.specs.Renderers.{popped, preformatted_added, pushed, struck_text, text_added, with_held}
-use Rattle.block_trait.specs.Renderers.{one_under, with_laid}
+use Rattle.block_trait.specs.Renderers.{one_under, popped, preformatted_added, pushed, struck_text, text_added}
+use Rattle.block_trait.specs.Renderers.{with_held, with_laid}
 use Rattle.block_trait.specs.declared.options.RenderOptions.{RenderOptions}
 use Rattle.block_laws.specs.RendererLaws.{CallFits, StaysWithin}
 use Rattle.text_borders.specs.AcrossLaws.{Seat, seat_of}
@@ -20,20 +20,21 @@ use Rattle.text_decorators.specs.Marks.{Mark, preformat_first, preformat_further
 use Rattle.table_grid.specs.declared.columns.Column.{Column}
 use Rattle.table_widths.specs.Slots.{Table}
 use Rattle.table_widths.specs.declared.slot.Slot.{Slot}
-use Rattle.layout_state.specs.Laying.{Laying, Step, TablePlace, cells, goes_to, in_current, in_turn, outside, rows}
-use Rattle.layout_state.specs.Laying.{says}
+use Rattle.layout_state.specs.LayoutState.{LayoutState, Step, TablePlace, cells, goes_to, in_current, in_turn, outside}
+use Rattle.layout_state.specs.LayoutState.{rows, says}
 use Rattle.layout_state.specs.declared.around.Around.TheVariants.{Flow}
 use Rattle.layout_tables.specs.Tables.{border_call, columns_laid, fence, is_fenced, rows_laid, rows_of, separated}
 use Rattle.layout_tables.specs.Tables.{table_begun, table_ended, table_laid, table_widths, top_border}
 use Rattle.layout_laws.proofs.RowFitLemmas.{seats_of, some_known}
 use Rattle.layout_laws.proofs.TableStates.{FitsCells, FitsRows, IsSoundTable, table_fits}
 use Rattle.layout_laws.proofs.WidthLemmas.{AreCalm, AreSound, At, Keeps, Kept, Steps, WidthLaws, either_keeps, keeps_by}
-use Rattle.layout_laws.proofs.WidthLemmas.{keeps_through, says_keeps, says_steps, stays, steps_by, steps_through, weaker}
+use Rattle.layout_laws.proofs.WidthLemmas.{keeps_through, says_keeps, says_steps, stays, steps_by, steps_through}
+use Rattle.layout_laws.proofs.WidthLemmas.{weaker}
 
 -- ---- between values
 
 -- The next value stands among rows, which fit.
-pub record InRows {H A : Type 0} (widths : Option (List ℕ)) (x : Laying H A) : Type 0 where
+pub record InRows {H A : Type 0} (widths : Option (List ℕ)) (x : LayoutState H A) : Type 0 where
   pub slots : List (List Slot)
   pub fragments : List (List ℕ)
   pub flows : x.around ≡ Flow
@@ -41,7 +42,7 @@ pub record InRows {H A : Type 0} (widths : Option (List ℕ)) (x : Laying H A) :
   pub fits : FitsRows widths slots x.parts.current.width (seats_of x.parts.current)
 
 -- The next value stands among cells, which fit.
-pub record InCells {H A : Type 0} (widths : Option (List ℕ)) (x : Laying H A) : Type 0 where
+pub record InCells {H A : Type 0} (widths : Option (List ℕ)) (x : LayoutState H A) : Type 0 where
   pub more : List (List Slot)
   pub fragments : List (List ℕ)
   pub slots : List Slot
@@ -71,11 +72,11 @@ rows_say : {H A : Type 0} {m : Marking H A} (laws : WidthLaws m) (widths : Optio
     → ((s : Sub H A) → CallFits c s) → ((s : Sub H A) → IfSome (step m c s) (Hangs s))
     → Steps (InRows widths) (InRows widths) (says m c)
 rows_say {H} {A} {m} laws widths c fits hangs = says_steps laws (InRows widths) (InRows widths) c
-    (λ x at. fits x.parts.current) behind
+    (λ x at. fits x.parts.current) trailing
   where
-    behind : (x : Laying H A) (s : Sub H A) → InRows widths x → StaysWithin x.parts.current s
+    trailing : (x : LayoutState H A) (s : Sub H A) → InRows widths x → StaysWithin x.parts.current s
         → step m c x.parts.current ≡ Some s → InRows widths (in_current x s)
-    behind x s at inside does = record {
+    trailing x s at inside does = record {
       slots = at.slots;
       fragments = at.fragments;
       flows = at.flows;
@@ -89,11 +90,11 @@ cells_say : {H A : Type 0} {m : Marking H A} (laws : WidthLaws m) (widths : Opti
     → ((s : Sub H A) → CallFits c s) → ((s : Sub H A) → IfSome (step m c s) (Hangs s))
     → Steps (InCells widths) (InCells widths) (says m c)
 cells_say {H} {A} {m} laws widths c fits hangs = says_steps laws (InCells widths) (InCells widths) c
-    (λ x at. fits x.parts.current) behind
+    (λ x at. fits x.parts.current) trailing
   where
-    behind : (x : Laying H A) (s : Sub H A) → InCells widths x → StaysWithin x.parts.current s
+    trailing : (x : LayoutState H A) (s : Sub H A) → InCells widths x → StaysWithin x.parts.current s
         → step m c x.parts.current ≡ Some s → InCells widths (in_current x s)
-    behind x s at inside does = record {
+    trailing x s at inside does = record {
       more = at.more;
       fragments = at.fragments;
       slots = at.slots;
@@ -200,7 +201,7 @@ table_hangs {H} {A} laws s = mapped (λ (b : Laid (List A)). b.hanging ≡ [])
 -- ---- a table
 
 -- A table has begun in a renderer of so many columns, and nothing hangs in it.
-record IsFresh {H A : Type 0} (in_cell : Bool) (width : ℕ) (x : Laying H A) : Type 0 where
+record IsFresh {H A : Type 0} (in_cell : Bool) (width : ℕ) (x : LayoutState H A) : Type 0 where
   pub at : At in_cell Flow x
   pub wide : x.parts.current.width ≡ width
   pub none : x.parts.current.laid.hanging ≡ []
@@ -210,11 +211,11 @@ fresh_say : {H A : Type 0} {m : Marking H A} (laws : WidthLaws m) (in_cell : Boo
     → Steps (IsFresh in_cell width) (IsFresh in_cell width) (says m c)
 fresh_say {H} {A} {m} laws in_cell width c fits hangs =
     says_steps laws (IsFresh in_cell width) (IsFresh in_cell width) c
-    (λ x fresh. fits x.parts.current fresh.wide) behind
+    (λ x fresh. fits x.parts.current fresh.wide) trailing
   where
-    behind : (x : Laying H A) (s : Sub H A) → IsFresh in_cell width x → StaysWithin x.parts.current s
+    trailing : (x : LayoutState H A) (s : Sub H A) → IsFresh in_cell width x → StaysWithin x.parts.current s
         → step m c x.parts.current ≡ Some s → IsFresh in_cell width (in_current x s)
-    behind x s fresh inside does = record {
+    trailing x s fresh inside does = record {
       at = fresh.at;
       wide = inside.1.0 ∙ fresh.wide;
       none = some_known (Hangs x.parts.current) (step m c x.parts.current) s does (hangs x.parts.current) ∙ fresh.none;
@@ -225,19 +226,19 @@ table_starts : {H A : Type 0} {m : Marking H A} (laws : WidthLaws m) (in_cell : 
     (says m calls.starts_table)
 table_starts {H} {A} {m} laws in_cell width =
     says_steps laws (λ x. At in_cell Flow x × (x.parts.current.width ≡ width)) (IsFresh in_cell width)
-    calls.starts_table (λ x at. tt) behind
+    calls.starts_table (λ x at. tt) trailing
   where
-    behind : (x : Laying H A) (s : Sub H A) → At in_cell Flow x × (x.parts.current.width ≡ width)
+    trailing : (x : LayoutState H A) (s : Sub H A) → At in_cell Flow x × (x.parts.current.width ≡ width)
         → StaysWithin x.parts.current s → step m calls.starts_table x.parts.current ≡ Some s
         → IsFresh in_cell width (in_current x s)
-    behind x s at inside does = record {
+    trailing x s at inside does = record {
       at = at.0;
       wide = inside.1.0 ∙ at.1;
       none = some_known (λ (new : Sub H A). new.laid.hanging ≡ []) (step m calls.starts_table x.parts.current) s does
           (table_hangs laws x.parts.current);
     }
 
-either_steps : {H A : Type 0} (P Q : Laying H A → Type 0) (t : Bool) (f g : Step H A) → Steps P Q f → Steps P Q g
+either_steps : {H A : Type 0} (P Q : LayoutState H A → Type 0) (t : Bool) (f g : Step H A) → Steps P Q f → Steps P Q g
     → Steps P Q (if t then f else g)
 either_steps P Q true f g one other = one
 either_steps P Q false f g one other = other
@@ -245,7 +246,7 @@ either_steps P Q false f g one other = other
 fence_begins : {H A : Type 0} {m : Marking H A} (laws : WidthLaws m) (in_cell : Bool) (width : ℕ) (asked : Bool)
     → Steps (IsFresh in_cell width) (IsFresh in_cell width) (fence m asked)
 fence_begins {H} {A} {m} laws in_cell width asked =
-    let P : Laying H A → Type 0 = IsFresh in_cell width in
+    let P : LayoutState H A → Type 0 = IsFresh in_cell width in
     either_steps P P asked (in_turn (says m (calls.adds_text (codes "```"))) (says m calls.ends_line)) Some
     (steps_through P P P (says m (calls.adds_text (codes "```"))) (says m calls.ends_line)
     (fresh_say laws in_cell width (calls.adds_text (codes "```")) (λ s e. tt) (λ s. text_hangs laws (codes "```") s))
@@ -268,7 +269,7 @@ top_begins : {H A : Type 0} {m : Marking H A} (laws : WidthLaws m) (in_cell : Bo
     → IfSome widths (FitAcross columns (capped width))
     → Steps (IsFresh in_cell width) (IsFresh in_cell width) (top_border m options widths)
 top_begins {H} {A} {m} laws in_cell width options widths columns fits =
-    let P : Laying H A → Type 0 = IsFresh in_cell width in
+    let P : LayoutState H A → Type 0 = IsFresh in_cell width in
     either_steps P P options.draw_borders (says m (border_call widths)) Some
     (fresh_say laws in_cell width (border_call widths) (λ s e. border_fits widths columns width s fits e)
     (λ s. border_hangs laws widths s)) (steps_by P)
@@ -279,8 +280,8 @@ table_begins : {H A : Type 0} {m : Marking H A} (laws : WidthLaws m) (in_cell : 
     → Steps (λ x. At in_cell Flow x × (x.parts.current.width ≡ width)) (InRows widths)
     (table_begun m options fenced widths (rows_of widths t))
 table_begins {H} {A} {m} laws in_cell width options fenced widths t sound fits =
-    let P : Laying H A → Type 0 = λ x. At in_cell Flow x × (x.parts.current.width ≡ width) in
-    let Q : Laying H A → Type 0 = IsFresh in_cell width in
+    let P : LayoutState H A → Type 0 = λ x. At in_cell Flow x × (x.parts.current.width ≡ width) in
+    let Q : LayoutState H A → Type 0 = IsFresh in_cell width in
     steps_through P Q (InRows widths) (says m calls.starts_table)
     (in_turn (fence m fenced) (in_turn (top_border m options widths) (goes_to (rows widths (rows_of widths t) []))))
     (table_starts laws in_cell width)
@@ -309,13 +310,13 @@ table_ends {m = m} laws in_cell widths fenced place is =
     (λ x sound at. (stays x.parts sound.kept, (at.flows, is))) (fence_ends laws fenced in_cell)
 
 rows_keep : {H A : Type 0} {m : Marking H A} (laws : WidthLaws m) (t : Table) (widths : Option (List ℕ))
-    (inside : Step H A) (in_cell : Bool) (x : Laying H A) → IsSoundTable t
+    (inside : Step H A) (in_cell : Bool) (x : LayoutState H A) → IsSoundTable t
     → IfSome widths (FitAcross t.columns (capped x.parts.current.width)) → Steps (InRows widths) (InRows widths) inside
     → AreSound x.parts → At in_cell Flow x → IfSome (rows_laid m t widths inside x) (Kept (At in_cell Flow) x)
 rows_keep {H} {A} {m} laws t widths inside in_cell x table fits does sound at =
     let options = x.parts.current.options in
     let fenced = is_fenced options x.table in
-    let P : Laying H A → Type 0 = λ y. At in_cell Flow y × (y.parts.current.width ≡ x.parts.current.width) in
+    let P : LayoutState H A → Type 0 = λ y. At in_cell Flow y × (y.parts.current.width ≡ x.parts.current.width) in
     steps_through P (InRows widths) (At in_cell Flow) (table_begun m options fenced widths (rows_of widths t))
     (in_turn inside (table_ended m fenced x.table))
     (table_begins laws in_cell x.parts.current.width options fenced widths t table fits)

@@ -1,6 +1,6 @@
 -- No line passes the width of its renderer, whatever values are laid out.
-use Rattle.std.proofs.Common.{◌≡◌, ℕ, suc, Bool, true, false, List, [], ◌∷◌, ◌++◌, Option, Some, IfSome, refl}
-use Rattle.std.proofs.Common.{sym, subst}
+use Rattle.std.proofs.Common.{◌≡◌, [], ◌∷◌, ◌++◌, Bool, IfSome, List, Option, Some, false, refl, subst, suc, sym, true}
+use Rattle.std.proofs.Common.{ℕ}
 use Rattle.std.specs.Prelude.{if◌then◌else◌}
 use Rattle.std.specs.Option.{option_map, option_to_list}
 use Rattle.block_layout_laws.proofs.OptionLemmas.{mapped}
@@ -18,7 +18,7 @@ use Rattle.render_values.specs.declared.info.RenderInfo.{RenderInfo}
 use Rattle.render_values.specs.declared.info.RenderInfo.TheVariants as infos
 use Rattle.layout_state.specs.Begins.{following, fragment_leads, named}
 use Rattle.layout_state.specs.Items.{spaces}
-use Rattle.layout_state.specs.Laying.{Laying, Step, cells, goes_to, in_table, in_turn, rows, says}
+use Rattle.layout_state.specs.LayoutState.{LayoutState, Step, cells, goes_to, in_table, in_turn, rows, says}
 use Rattle.layout_state.specs.declared.around.Around.{Around}
 use Rattle.layout_state.specs.declared.around.Around.TheVariants.{Flow}
 use Rattle.layout_state.specs.declared.around.ItemMark.TheVariants.{Bullet, Number}
@@ -33,11 +33,11 @@ use Rattle.layout_laws.proofs.RowFitLemmas.{seats_of}
 use Rattle.layout_laws.proofs.TableLemmas.{table_sound}
 use Rattle.layout_laws.proofs.TableStates.{FitsRows, IsSoundTable, hidden_fits, row_begins}
 use Rattle.layout_laws.proofs.TableWidthLemmas.{InCells, InRows, cells_calm, rows_calm, rows_named, table_keeps}
-use Rattle.layout_laws.proofs.WidthLemmas.{AreSound, At, Keeps, KeepsAll, Kept, MarkFits, Steps, WidthLaws, around_behind}
-use Rattle.layout_laws.proofs.WidthLemmas.{begins_keeps, ends_keeps, flow_fits, following_keeps, for_steps, keeps_flow}
-use Rattle.layout_laws.proofs.WidthLemmas.{keeps_through, leading_keeps, list_keeps, mark_keeps, named_keeps, next_around}
-use Rattle.layout_laws.proofs.WidthLemmas.{placed_keeps, prefix_keeps, stays, steps_by, steps_through, styled_keeps}
-use Rattle.layout_laws.proofs.WidthLemmas.{styled_steps}
+use Rattle.layout_laws.proofs.WidthLemmas.{AreSound, At, Keeps, KeepsAll, Kept, MarkFits, Steps, WidthLaws}
+use Rattle.layout_laws.proofs.WidthLemmas.{around_after, begins_keeps, ends_keeps, flow_fits, following_keeps}
+use Rattle.layout_laws.proofs.WidthLemmas.{for_steps, keeps_flow, keeps_through, leading_keeps, list_keeps, mark_keeps}
+use Rattle.layout_laws.proofs.WidthLemmas.{named_keeps, next_around, placed_keeps, prefix_keeps, stays, steps_by}
+use Rattle.layout_laws.proofs.WidthLemmas.{steps_through, styled_keeps, styled_steps}
 
 -- What stands in a value, of so many values, wherever that may be: outside of tables, among rows and in a row.
 pub record KeepsInside {H A : Type 0} (m : Marking H A) (items : ℕ) (f : Step H A) : Type 0 where
@@ -103,7 +103,7 @@ shown_keeps {m = m} laws head c inside fits table keeps =
     (keeps_through Flow Flow Flow _ _ (begins_keeps laws head.info)
     (keeps_through Flow Flow Flow _ _
     (holds_keeps laws head.info c (in_turn (following m head) inside) fits table
-    (λ a marked. keeps_through a a (around_behind c.items a) (following m head) inside (following_keeps laws a head)
+    (λ a marked. keeps_through a a (around_after c.items a) (following m head) inside (following_keeps laws a head)
     (keeps.flow a marked))
     (λ widths. steps_through (InRows widths) (InRows widths) (InRows widths) (following m head) inside
     (following_among laws head widths) (keeps.among widths)))
@@ -112,7 +112,7 @@ shown_keeps {m = m} laws head c inside fits table keeps =
 -- ---- among rows
 
 row_keeps : {H A : Type 0} {m : Marking H A} (laws : WidthLaws m) (head : Head) (widths : Option (List ℕ))
-    (slots : List (List Slot)) (fragments : List (List ℕ)) (inside : Step H A) (x : Laying H A)
+    (slots : List (List Slot)) (fragments : List (List ℕ)) (inside : Step H A) (x : LayoutState H A)
     → Steps (InCells widths) (InCells widths) inside → AreSound x.parts → x.around ≡ Flow
     → x.table ≡ rows widths slots fragments
     → FitsRows widths slots x.parts.current.width (seats_of x.parts.current)
@@ -124,7 +124,7 @@ row_keeps laws head widths [] fragments inside x does sound flows is fits = (
 row_keeps {H} {A} {m} laws head widths (row ∷ more) fragments inside x does sound flows is fits =
     by (is_shown row) refl
   where
-    begun : Laying H A
+    begun : LayoutState H A
     begun = in_table (cells widths more (fragments ++ option_to_list head.fragment) row []) x
 
     by : (b : Bool) → is_shown row ≡ b → IfSome ((if b then in_turn (row_begun widths more fragments row head.fragment)
@@ -155,7 +155,7 @@ row_keeps {H} {A} {m} laws head widths (row ∷ more) fragments inside x does so
     )
 
 group_keeps : {H A : Type 0} {m : Marking H A} (laws : WidthLaws m) (head : Head) (widths : Option (List ℕ))
-    (slots : List (List Slot)) (fragments : List (List ℕ)) (inside : Step H A) (x : Laying H A)
+    (slots : List (List Slot)) (fragments : List (List ℕ)) (inside : Step H A) (x : LayoutState H A)
     → Steps (InRows widths) (InRows widths) inside → AreSound x.parts → x.around ≡ Flow
     → FitsRows widths slots x.parts.current.width (seats_of x.parts.current)
     → IfSome (in_its_group m head widths slots fragments inside x) (Kept (InRows widths) x)
@@ -171,7 +171,7 @@ group_keeps laws head widths slots fragments inside x does sound flows fits =
     })
 
 among_keeps : {H A : Type 0} {m : Marking H A} (laws : WidthLaws m) (info : RenderInfo) (head : Head)
-    (items : ℕ) (inside : Step H A) (widths : Option (List ℕ)) (x : Laying H A) → KeepsInside m items inside
+    (items : ℕ) (inside : Step H A) (widths : Option (List ℕ)) (x : LayoutState H A) → KeepsInside m items inside
     → AreSound x.parts → (at : InRows widths x)
     → IfSome (among_rows m info head widths at.slots at.fragments inside x) (Kept (InRows widths) x)
 among_keeps laws infos.Nothing head items inside widths x keeps sound at = (stays x.parts sound.kept, at)
@@ -206,7 +206,7 @@ among_keeps laws (infos.TableCell columns taken) head items inside widths x keep
 -- ---- in a row
 
 in_row_keeps : {H A : Type 0} {m : Marking H A} (laws : WidthLaws m) (info : RenderInfo) (head : Head)
-    (items : ℕ) (inside : Step H A) (widths : Option (List ℕ)) (x : Laying H A) → KeepsInside m items inside
+    (items : ℕ) (inside : Step H A) (widths : Option (List ℕ)) (x : LayoutState H A) → KeepsInside m items inside
     → AreSound x.parts → (at : InCells widths x)
     → IfSome (among_cells m info head (cells widths at.more at.fragments at.slots at.made) inside x)
     (Kept (InCells widths) x)
@@ -286,7 +286,7 @@ lay_keeps {H} {A} {m} laws w (value head inside rest) fits =
     by : KeepsInside m (number inside) (lay m w inside) → KeepsInside m (number rest) (lay m w rest)
         → KeepsInside m (suc (number rest)) (in_turn here (lay m w rest))
     by one other = record {
-      flow = λ a marked. keeps_through a (next_around a) (around_behind (number rest) (next_around a)) here
+      flow = λ a marked. keeps_through a (next_around a) (around_after (number rest) (next_around a)) here
           (lay m w rest)
           (outside_keeps laws head (content_of w head inside) (lay m w inside) fits.0
           (table_sound w laws.tables head.info inside) one a marked.0)
@@ -301,7 +301,7 @@ pub parts_stay : {H A : Type 0} {m : Marking H A} (laws : WidthLaws m) (w : Meas
     (p : Parts H A) → AreNumbered values → AreKeptWithin p
     → IfSome (option_map (λ l. l.parts) (lay m w values (on_page p))) (PartsStayWithin p)
 parts_stay {H} {A} {m} laws w values p fits kept =
-    mapped (Kept (At false (around_behind (number values) Flow)) (on_page p)) (PartsStayWithin p)
-    (λ (l : Laying H A). l.parts) (lay m w values (on_page p)) (λ l k. k.0)
+    mapped (Kept (At false (around_after (number values) Flow)) (on_page p)) (PartsStayWithin p)
+    (λ (l : LayoutState H A). l.parts) (lay m w values (on_page p)) (λ l k. k.0)
     ((lay_keeps laws w values fits).flow Flow (flow_fits m (number values)) false (on_page p)
     (record { kept = kept }) (refl, refl))

@@ -1,6 +1,6 @@
 -- No line passes the width of its renderer, whatever values are laid out outside of tables.
-use Rattle.std.proofs.Common.{◌≡◌, ℕ, zero, suc, ◌+◌, ◌-◌, ◌≤◌, max, ℤ, ◌≤ℤ◌, Bool, true, false, List, Option}
-use Rattle.std.proofs.Common.{None, Some, IfSome, refl, sym, ap, subst, ◌∙◌, arith}
+use Rattle.std.proofs.Common.{◌≡◌, ◌+◌, ◌-◌, ◌≤◌, ◌≤ℤ◌, ◌∙◌, Bool, IfSome, List, None, Option, Some, ap, arith, false}
+use Rattle.std.proofs.Common.{max, refl, subst, suc, sym, true, zero, ℕ, ℤ}
 use Rattle.std.specs.Prelude.{FitsSigned, if◌then◌else◌}
 use Rattle.std.specs.Int.{w64}
 use Rattle.std.specs.Option.{option_and_then}
@@ -10,7 +10,7 @@ use Rattle.block_renderer.specs.NewParts.{part_of}
 use Rattle.table_widths.specs.Across.{FitAcross, widths_across}
 use Rattle.block_trait.specs.Calls.{Call, step}
 use Rattle.block_trait.specs.Calls as calls
-use Rattle.block_trait.specs.Renderers.{Marking, Sub, room_behind}
+use Rattle.block_trait.specs.Renderers.{Marking, Sub, room_after}
 use Rattle.block_laws.specs.RendererLaws.{CallFits, IsKeptWithin, StaysWithin}
 use Rattle.table_grid.specs.declared.columns.Column.{Column}
 use Rattle.table_widths.specs.RowLaws.{AreWholeRows}
@@ -26,17 +26,16 @@ use Rattle.render_values.specs.declared.info.Head.{Head}
 use Rattle.render_values.specs.declared.info.RenderInfo.{RenderInfo}
 use Rattle.render_values.specs.declared.info.RenderInfo.TheVariants as infos
 use Rattle.render_values.specs.declared.style.RenderStyle.{RenderStyle}
-use Rattle.layout_state.specs.Begins.{begins, ends, following, fragment_leads, leading, named, style_begins}
-use Rattle.layout_state.specs.Begins.{style_ends}
+use Rattle.layout_state.specs.Begins.{begins, ends, following, fragment_leads, leading, named, style_begins, style_ends}
 use Rattle.layout_state.specs.Items.{item_columns, item_mark, last_mark, next_mark, number_after, padded, spaces}
-use Rattle.layout_state.specs.Laying.{Laying, Step, begins_link, behind_prefix, ends_link, for_some, goes_on}
-use Rattle.layout_state.specs.Laying.{in_current, in_part, in_parts, in_turn, mark_of, outside, part_begun, part_ended}
-use Rattle.layout_state.specs.Laying.{says}
+use Rattle.layout_state.specs.LayoutState.{LayoutState, Step, after_prefix, begins_link, ends_link, for_some, goes_on}
+use Rattle.layout_state.specs.LayoutState.{in_current, in_part, in_parts, in_turn, mark_of, outside, part_begun}
+use Rattle.layout_state.specs.LayoutState.{part_ended, says}
 use Rattle.layout_state.specs.declared.around.Around.{Around}
 use Rattle.layout_state.specs.declared.around.Around.TheVariants.{Flow, Items}
 use Rattle.layout_state.specs.declared.around.ItemMark.{ItemMark}
 use Rattle.layout_state.specs.declared.around.ItemMark.TheVariants.{Bullet, Number}
-use Rattle.layout_values.specs.Lay.{behind_mark, listed, placed, styled}
+use Rattle.layout_values.specs.Lay.{after_mark, listed, placed, styled}
 use Rattle.layout_laws.proofs.NumberLemmas.{Reaches, first_reaches, next_above, next_reaches, number_fits, padded_fits}
 use Rattle.layout_laws.proofs.NumberLemmas.{spaces_fit, up_to_last}
 use Rattle.layout_laws.proofs.RowFitLemmas.{SeatLaws}
@@ -46,8 +45,8 @@ pub record WidthLaws {H A : Type 0} (m : Marking H A) : Type 0 where
   pub does : (c : Call (Sub H A)) (s new : Sub H A) → IsKeptWithin s → CallFits c s → step m c s ≡ Some new
       → StaysWithin s new
   pub part : (width : ℕ) (s : Sub H A) → IsKeptWithin s → IsKeptWithin (part_of m.sub width s)
-  pub behind : (prefix least : ℕ) (s : Sub H A) → IsKeptWithin s
-      → IfSome (room_behind prefix least s) (λ n. (prefix + n ≡ s.width) × ((1 ≤ n) × (least ≤ n)))
+  pub trailing : (prefix least : ℕ) (s : Sub H A) → IsKeptWithin s
+      → IfSome (room_after prefix least s) (λ n. (prefix + n ≡ s.width) × ((1 ≤ n) × (least ≤ n)))
   pub link_begins : (target : List ℕ) (p new : Parts H A) → AreKeptWithin p → begin_part_link m target p ≡ Some new
       → PartsStayWithin p new
   pub link_ends : (p new : Parts H A) → AreKeptWithin p → finish_part_link m p ≡ Some new → PartsStayWithin p new
@@ -63,13 +62,13 @@ next_around Flow = Flow
 next_around (Items mark columns least) = Items (next_mark mark) columns least
 
 -- after so many values
-abbrev pub around_behind : ℕ → Around → Around
-around_behind zero a = a
-around_behind (suc n) a = around_behind n (next_around a)
+abbrev pub around_after : ℕ → Around → Around
+around_after zero a = a
+around_after (suc n) a = around_after n (next_around a)
 
-pub flow_behind : (n : ℕ) → around_behind n Flow ≡ Flow
-flow_behind zero = refl
-flow_behind (suc n) = flow_behind n
+pub flow_after : (n : ℕ) → around_after n Flow ≡ Flow
+flow_after zero = refl
+flow_after (suc n) = flow_after n
 
 -- Whatever a decorator holds, the next value's mark stays within the list's columns.
 abbrev pub MarkFits : {H A : Type 0} → Marking H A → Around → Type 0
@@ -114,24 +113,24 @@ pub record AreSound {H A : Type 0} (p : Parts H A) : Type 0 where
   pub kept : AreKeptWithin p
 
 -- What was within the width still is, and the next value stands so.
-abbrev pub Kept : {H A : Type 0} → (Laying H A → Type 0) → Laying H A → Laying H A → Type 0
+abbrev pub Kept : {H A : Type 0} → (LayoutState H A → Type 0) → LayoutState H A → LayoutState H A → Type 0
 Kept Q old new = PartsStayWithin old.parts new.parts × Q new
 
-abbrev pub Steps : {H A : Type 0} → (P Q : Laying H A → Type 0) → Step H A → Type 0
-Steps {H} {A} P Q f = (x : Laying H A) → AreSound x.parts → P x → IfSome (f x) (Kept Q x)
+abbrev pub Steps : {H A : Type 0} → (P Q : LayoutState H A → Type 0) → Step H A → Type 0
+Steps {H} {A} P Q f = (x : LayoutState H A) → AreSound x.parts → P x → IfSome (f x) (Kept Q x)
 
 -- The next value stands outside of tables, and the list around says this.
-abbrev pub At : {H A : Type 0} → Bool → Around → Laying H A → Type 0
+abbrev pub At : {H A : Type 0} → Bool → Around → LayoutState H A → Type 0
 At in_cell a x = (x.around ≡ a) × (x.table ≡ outside in_cell)
 
 abbrev pub Keeps : {H A : Type 0} → (from to : Around) → Step H A → Type 0
 Keeps {H} {A} from to f = (in_cell : Bool) → Steps (At in_cell from) (At in_cell to) f
 
 pub stays_on : {H A : Type 0} (p q r : Parts H A) → PartsStayWithin p q → PartsStayWithin q r → PartsStayWithin p r
-stays_on p q r before behind = record {
-  current = (behind.current.0, (behind.current.1.0 ∙ before.current.1.0, behind.current.1.1 ∙ before.current.1.1));
-  below = behind.below ∙ before.below;
-  kept = behind.kept;
+stays_on p q r before trailing = record {
+  current = (trailing.current.0, (trailing.current.1.0 ∙ before.current.1.0, trailing.current.1.1 ∙ before.current.1.1));
+  below = trailing.below ∙ before.below;
+  kept = trailing.kept;
 }
 
 pub stays : {H A : Type 0} (p : Parts H A) → AreKeptWithin p → PartsStayWithin p p
@@ -145,20 +144,20 @@ pub weaker : {X : Type 0} (P Q : X → Type 0) (o : Option X) → ((x : X) → P
 weaker P Q None h given = tt
 weaker P Q (Some x) h given = h x given
 
-pub onward : {H A : Type 0} (Q R : Laying H A → Type 0) (g : Step H A) (x : Laying H A) (o : Option (Laying H A))
+pub onward : {H A : Type 0} (Q R : LayoutState H A → Type 0) (g : Step H A) (x : LayoutState H A) (o : Option (LayoutState H A))
     → AreSound x.parts → Steps Q R g → IfSome o (Kept Q x) → IfSome (option_and_then g o) (Kept R x)
 onward Q R g x o sound does given = chained (Kept Q x) (Kept R x) g o
     (λ y k. weaker (Kept R y) (Kept R x) (g y) (λ z j. (stays_on x.parts y.parts z.parts k.0 j.0, j.1))
     (does y (sound_on x.parts y.parts sound k.0) k.1)) given
 
-pub steps_by : {H A : Type 0} (P : Laying H A → Type 0) → Steps P P Some
+pub steps_by : {H A : Type 0} (P : LayoutState H A → Type 0) → Steps P P Some
 steps_by P x sound at = (stays x.parts sound.kept, at)
 
-pub steps_through : {H A : Type 0} (P Q R : Laying H A → Type 0) (f g : Step H A) → Steps P Q f → Steps Q R g
+pub steps_through : {H A : Type 0} (P Q R : LayoutState H A → Type 0) (f g : Step H A) → Steps P Q f → Steps Q R g
     → Steps P R (in_turn f g)
 steps_through P Q R f g one other x sound at = onward Q R g x (f x) sound other (one x sound at)
 
-pub for_steps : {X H A : Type 0} (P : Laying H A → Type 0) (o : Option X) (f : X → Step H A)
+pub for_steps : {X H A : Type 0} (P : LayoutState H A → Type 0) (o : Option X) (f : X → Step H A)
     → ((x : X) → Steps P P (f x)) → Steps P P (for_some o f)
 for_steps P None f each = steps_by P
 for_steps P (Some x) f each = each x
@@ -185,12 +184,12 @@ current_stays p s kept inside =
     record { current = inside; below = refl; kept = record { current = inside.0; below = kept.below } }
 
 -- a call that fits where it is made
-pub says_there : {H A : Type 0} {m : Marking H A} (laws : WidthLaws m) (Q : Laying H A → Type 0) (c : Call (Sub H A))
-    (x : Laying H A) → AreSound x.parts → CallFits c x.parts.current
+pub says_there : {H A : Type 0} {m : Marking H A} (laws : WidthLaws m) (Q : LayoutState H A → Type 0) (c : Call (Sub H A))
+    (x : LayoutState H A) → AreSound x.parts → CallFits c x.parts.current
     → ((s : Sub H A) → StaysWithin x.parts.current s → step m c x.parts.current ≡ Some s → Q (in_current x s))
     → IfSome (says m c x) (Kept Q x)
 unfolding says
-says_there {H} {A} {m} laws Q c x sound fits behind =
+says_there {H} {A} {m} laws Q c x sound fits trailing =
     mapped (λ (s : Sub H A). StaysWithin x.parts.current s × Q (in_current x s)) (Kept Q x) (in_current x)
     (step m c x.parts.current) (λ s h. (current_stays x.parts s sound.kept h.0, h.1))
     (known (λ (s : Sub H A). StaysWithin x.parts.current s × Q (in_current x s)) (step m c x.parts.current)
@@ -198,15 +197,15 @@ says_there {H} {A} {m} laws Q c x sound fits behind =
   where
     both : (s : Sub H A) → step m c x.parts.current ≡ Some s → StaysWithin x.parts.current s
         → StaysWithin x.parts.current s × Q (in_current x s)
-    both s does inside = (inside, behind s inside does)
+    both s does inside = (inside, trailing s inside does)
 
-pub says_steps : {H A : Type 0} {m : Marking H A} (laws : WidthLaws m) (P Q : Laying H A → Type 0)
-    (c : Call (Sub H A)) → ((x : Laying H A) → P x → CallFits c x.parts.current)
-    → ((x : Laying H A) (s : Sub H A) → P x → StaysWithin x.parts.current s
+pub says_steps : {H A : Type 0} {m : Marking H A} (laws : WidthLaws m) (P Q : LayoutState H A → Type 0)
+    (c : Call (Sub H A)) → ((x : LayoutState H A) → P x → CallFits c x.parts.current)
+    → ((x : LayoutState H A) (s : Sub H A) → P x → StaysWithin x.parts.current s
     → step m c x.parts.current ≡ Some s → Q (in_current x s))
     → Steps P Q (says m c)
-says_steps laws P Q c fits behind x sound at =
-    says_there laws Q c x sound (fits x at) (λ s inside does. behind x s at inside does)
+says_steps laws P Q c fits trailing x sound at =
+    says_there laws Q c x sound (fits x at) (λ s inside does. trailing x s at inside does)
 
 pub says_keeps : {H A : Type 0} {m : Marking H A} (laws : WidthLaws m) (a : Around) (c : Call (Sub H A))
     → ((s : Sub H A) → CallFits c s) → Keeps a a (says m c)
@@ -233,14 +232,14 @@ link_end_keeps {m = m} laws a in_cell x sound at =
 -- ---- parts
 
 -- a part after so many columns of another renderer
-pub record IsPart {H A : Type 0} (columns : ℕ) (outer part : Laying H A) : Type 0 where
+pub record IsPart {H A : Type 0} (columns : ℕ) (outer part : LayoutState H A) : Type 0 where
   pub sound : AreSound part.parts
   pub flows : part.around ≡ Flow
   pub table : part.table ≡ outer.table
   pub below : part.parts.below ≡ outer.parts.below
   pub fits : columns + part.parts.current.width ≤ outer.parts.current.width
 
-part_is : {H A : Type 0} {m : Marking H A} (laws : WidthLaws m) (columns width : ℕ) (x : Laying H A)
+part_is : {H A : Type 0} {m : Marking H A} (laws : WidthLaws m) (columns width : ℕ) (x : LayoutState H A)
     → AreSound x.parts → columns + width ≤ x.parts.current.width → IsPart columns x (in_part m width x)
 unfolding in_part
 part_is laws columns width x sound fits = record {
@@ -253,16 +252,16 @@ part_is laws columns width x sound fits = record {
   fits = fits;
 }
 
-part_begins : {H A : Type 0} {m : Marking H A} (laws : WidthLaws m) (columns least : ℕ) (x : Laying H A)
+part_begins : {H A : Type 0} {m : Marking H A} (laws : WidthLaws m) (columns least : ℕ) (x : LayoutState H A)
     → AreSound x.parts → IfSome (part_begun m columns least x) (IsPart columns x)
 unfolding part_begun
 part_begins {m = m} laws columns least x sound =
     mapped (λ (n : ℕ). (columns + n ≡ x.parts.current.width) × ((1 ≤ n) × (least - columns ≤ n)))
-    (IsPart columns x) (λ width. in_part m width x) (room_behind columns (least - columns) x.parts.current)
+    (IsPart columns x) (λ width. in_part m width x) (room_after columns (least - columns) x.parts.current)
     (λ width h. part_is laws columns width x sound (omega (arith, h.0)))
-    (laws.behind columns (least - columns) x.parts.current sound.kept.current)
+    (laws.trailing columns (least - columns) x.parts.current sound.kept.current)
 
-part_stays : {H A : Type 0} (columns : ℕ) (in_cell : Bool) (x y z : Laying H A) → x.table ≡ outside in_cell
+part_stays : {H A : Type 0} (columns : ℕ) (in_cell : Bool) (x y z : LayoutState H A) → x.table ≡ outside in_cell
     → IsPart columns x y → Kept (At in_cell Flow) y z → IsPart columns x z
 part_stays columns in_cell x y z is part inside = record {
   sound = sound_on y.parts z.parts part.sound inside.0;
@@ -273,7 +272,7 @@ part_stays columns in_cell x y z is part inside = record {
 }
 
 part_ends : {H A : Type 0} {m : Marking H A} (laws : WidthLaws m) (columns : ℕ) (first further : List ℕ)
-    (in_cell : Bool) (x z : Laying H A) → text_columns first ≤ columns → text_columns further ≤ columns
+    (in_cell : Bool) (x z : LayoutState H A) → text_columns first ≤ columns → text_columns further ≤ columns
     → AreSound x.parts → x.table ≡ outside in_cell → IsPart columns x z
     → IfSome (part_ended m x.parts.current first further z) (Kept (At in_cell Flow) x)
 unfolding part_ended says
@@ -293,9 +292,9 @@ part_ends {m = m} laws columns first further in_cell x z one other sound is part
     (part.sound.kept.current, (omega (arith, one, part.fits), omega (arith, other, part.fits))) does))
 
 pub prefix_keeps : {H A : Type 0} {m : Marking H A} (laws : WidthLaws m) (columns : ℕ) (first further : List ℕ)
-    (least : ℕ) (inside : Step H A) (in_cell : Bool) (x : Laying H A) → text_columns first ≤ columns
+    (least : ℕ) (inside : Step H A) (in_cell : Bool) (x : LayoutState H A) → text_columns first ≤ columns
     → text_columns further ≤ columns → Keeps Flow Flow inside → AreSound x.parts → x.table ≡ outside in_cell
-    → IfSome (behind_prefix m columns first further least inside x) (Kept (At in_cell Flow) x)
+    → IfSome (after_prefix m columns first further least inside x) (Kept (At in_cell Flow) x)
 prefix_keeps {m = m} laws columns first further least inside in_cell x one other keeps sound is =
     chained (IsPart columns x) (Kept (At in_cell Flow) x)
     (in_turn inside (part_ended m x.parts.current first further)) (part_begun m columns least x)
@@ -307,17 +306,17 @@ prefix_keeps {m = m} laws columns first further least inside in_cell x one other
     (part_begins laws columns least x sound)
 
 pub mark_keeps : {H A : Type 0} {m : Marking H A} (laws : WidthLaws m) (kind : Mark) (least : ℕ) (inside : Step H A)
-    → Keeps Flow Flow inside → Keeps Flow Flow (behind_mark m kind least inside)
+    → Keeps Flow Flow inside → Keeps Flow Flow (after_mark m kind least inside)
 mark_keeps {m = m} laws kind least inside keeps in_cell x sound at =
     prefix_keeps laws (text_columns (mark_of m kind x)) (mark_of m kind x) (mark_of m kind x) least inside in_cell x
     (omega arith) (omega arith) keeps sound at.1
 
 -- what stands in a value, of so many values
 abbrev pub KeepsAll : {H A : Type 0} → Marking H A → ℕ → Step H A → Type 0
-KeepsAll m items f = (a : Around) → MarksFit m items a → Keeps a (around_behind items a) f
+KeepsAll m items f = (a : Around) → MarksFit m items a → Keeps a (around_after items a) f
 
 pub keeps_flow : {H A : Type 0} (m : Marking H A) (items : ℕ) (f : Step H A) → KeepsAll m items f → Keeps Flow Flow f
-keeps_flow m items f keeps = subst (λ a. Keeps Flow a f) (flow_behind items) (keeps Flow (flow_fits m items))
+keeps_flow m items f keeps = subst (λ a. Keeps Flow a f) (flow_after items) (keeps Flow (flow_fits m items))
 
 -- ---- lists
 
@@ -328,7 +327,7 @@ IsFirst (Number z) = FitsSigned w64 z
 
 -- the marks of a list that begins with one
 marks_fit : {H A : Type 0} {m : Marking H A} (laws : WidthLaws m) (first : ItemMark) (items least : ℕ)
-    (x : Laying H A) → IsFirst first
+    (x : LayoutState H A) → IsFirst first
     → MarksFit m items (Items first (item_columns m first (last_mark first items) x) least)
 unfolding mark_of
 marks_fit {m = m} laws Bullet items least x fits = bullets_fit m _ least items
@@ -349,24 +348,24 @@ pub list_keeps : {H A : Type 0} {m : Marking H A} (laws : WidthLaws m) (first : 
 list_keeps {m = m} laws first items least inside fits keeps in_cell x sound at =
     let a : Around = Items first (item_columns m first (last_mark first items) x) least in
     keeps_through Flow a Flow (goes_on a) (in_turn inside (goes_on Flow)) (keeps_around Flow a)
-    (keeps_through a (around_behind items a) Flow inside (goes_on Flow)
-    (keeps a (marks_fit laws first items least x fits)) (keeps_around (around_behind items a) Flow))
+    (keeps_through a (around_after items a) Flow inside (goes_on Flow)
+    (keeps a (marks_fit laws first items least x fits)) (keeps_around (around_after items a) Flow))
     in_cell x sound at
 
-mark_within : {H A : Type 0} (m : Marking H A) (mark : ItemMark) (columns : ℕ) (x : Laying H A)
+mark_within : {H A : Type 0} (m : Marking H A) (mark : ItemMark) (columns : ℕ) (x : LayoutState H A)
     → ((h : H) → text_columns (m.mark_text h (item_mark mark)) ≤ columns)
     → text_columns (mark_of m (item_mark mark) x) ≤ columns
 unfolding mark_of
 mark_within m mark columns x fits = fits x.parts.current.held
 
 pub placed_keeps : {H A : Type 0} {m : Marking H A} (laws : WidthLaws m) (a : Around) (inside : Step H A)
-    (in_cell : Bool) (x : Laying H A) → MarkFits m a → Keeps Flow Flow inside → AreSound x.parts → At in_cell a x
+    (in_cell : Bool) (x : LayoutState H A) → MarkFits m a → Keeps Flow Flow inside → AreSound x.parts → At in_cell a x
     → IfSome (placed m a inside x) (Kept (At in_cell (next_around a)) x)
 placed_keeps laws Flow inside in_cell x fits keeps sound at = keeps in_cell x sound at
 placed_keeps {m = m} laws (Items mark columns least) inside in_cell x fits keeps sound at =
     onward (At in_cell Flow) (At in_cell (Items (next_mark mark) columns least))
     (goes_on (Items (next_mark mark) columns least)) x
-    (behind_prefix m columns (padded columns (mark_of m (item_mark mark) x)) (spaces columns) least inside x) sound
+    (after_prefix m columns (padded columns (mark_of m (item_mark mark) x)) (spaces columns) least inside x) sound
     (keeps_around Flow (Items (next_mark mark) columns least) in_cell)
     (prefix_keeps laws columns (padded columns (mark_of m (item_mark mark) x)) (spaces columns) least inside in_cell x
     (padded_fits columns (mark_of m (item_mark mark) x) (mark_within m mark columns x fits)) (spaces_fit columns)
@@ -467,13 +466,13 @@ following_keeps {m = m} laws a head = either_keeps a (fragment_leads head.info) 
 -- ---- styles
 
 -- Calls of styles leave it as it is where the next value stands.
-pub record AreCalm {H A : Type 0} (m : Marking H A) (P : Laying H A → Type 0) : Type 0 where
+pub record AreCalm {H A : Type 0} (m : Marking H A) (P : LayoutState H A → Type 0) : Type 0 where
   pub colour : (kind : Mark) → Steps P P (says m (calls.starts_colour kind))
   pub colour_end : (kind : Mark) → Steps P P (says m (calls.ends_colour kind))
   pub mode : (mode : WhiteSpace) → Steps P P (says m (calls.starts_mode mode))
   pub mode_end : Steps P P (says m calls.ends_mode)
 
-look_begins : {H A : Type 0} {m : Marking H A} (P : Laying H A → Type 0) → AreCalm m P → (s : RenderStyle)
+look_begins : {H A : Type 0} {m : Marking H A} (P : LayoutState H A → Type 0) → AreCalm m P → (s : RenderStyle)
     → Steps P P (style_begins m s)
 unfolding style_begins
 look_begins {m = m} P calm s = steps_through P P P _ _
@@ -484,7 +483,7 @@ look_begins {m = m} P calm s = steps_through P P P _ _
     (λ c. calm.colour (marks.background_start c)))
     (for_steps P s.white_space (λ mode. says m (calls.starts_mode mode)) (λ mode. calm.mode mode)))
 
-look_ends : {H A : Type 0} {m : Marking H A} (P : Laying H A → Type 0) → AreCalm m P → (s : RenderStyle)
+look_ends : {H A : Type 0} {m : Marking H A} (P : LayoutState H A → Type 0) → AreCalm m P → (s : RenderStyle)
     → Steps P P (style_ends m s)
 unfolding style_ends
 look_ends {m = m} P calm s = steps_through P P P _ _
@@ -495,10 +494,10 @@ look_ends {m = m} P calm s = steps_through P P P _ _
     (for_steps P s.colour (λ c. says m (calls.ends_colour marks.colour_end))
     (λ c. calm.colour_end marks.colour_end)))
 
-pub styled_steps : {H A : Type 0} {m : Marking H A} (P Q : Laying H A → Type 0) → AreCalm m P → AreCalm m Q
+pub styled_steps : {H A : Type 0} {m : Marking H A} (P Q : LayoutState H A → Type 0) → AreCalm m P → AreCalm m Q
     → (s : RenderStyle) (inside : Step H A) → Steps P Q inside → Steps P Q (styled m s inside)
-styled_steps {m = m} P Q calm calm_behind s inside does = steps_through P P Q (style_begins m s) _
-    (look_begins P calm s) (steps_through P Q Q inside (style_ends m s) does (look_ends Q calm_behind s))
+styled_steps {m = m} P Q calm calm_after s inside does = steps_through P P Q (style_begins m s) _
+    (look_begins P calm s) (steps_through P Q Q inside (style_ends m s) does (look_ends Q calm_after s))
 
 pub styled_keeps : {H A : Type 0} {m : Marking H A} (laws : WidthLaws m) (s : RenderStyle) (inside : Step H A)
     → Keeps Flow Flow inside → Keeps Flow Flow (styled m s inside)

@@ -3,10 +3,13 @@ ghost use Rattle.block_trait.specs.Renderers.{Marking};
 ghost use Rattle.layout_laws.specs.BareLaws.{AreLaidBare};
 ghost use Rattle.layout_laws.specs.WalkLaws.{KeepWidth, AreLaidWithRoom};
 
-use table_widths::widths_across_fit;
+use block_laws::{
+    a_prefix_and_its_room_are_the_width, annotations_change_no_text, renderers_keep_the_width,
+    renderers_with_room_never_refuse,
+};
 use block_layout_laws::cells_hang_until_a_row;
 use render_sizes::tables_are_sound;
-use block_laws::{a_prefix_and_its_room_are_the_width, annotations_change_no_text, renderers_keep_the_width, renderers_with_room_never_refuse};
+use table_widths::widths_across_fit;
 use text_block_renderer::{parts_keep_the_width, parts_with_room_never_refuse};
 use text_borders::cells_keep_their_places;
 use text_decorators::TextDecorator;

@@ -1,13 +1,13 @@
 -- Steps in turn.
 use Rattle.std.proofs.Common.{◌≡◌, Option, None, Some, refl, ap, ◌∙◌}
 use Rattle.std.specs.Option.{option_and_then}
-use Rattle.layout_state.specs.Laying.{Laying, Step, in_turn}
+use Rattle.layout_state.specs.LayoutState.{LayoutState, Step, in_turn}
 
-pub turn_on : {H A : Type 0} (f g : Step H A) (l new : Laying H A) (o : Option (Laying H A)) → f l ≡ Some new
+pub turn_on : {H A : Type 0} (f g : Step H A) (l new : LayoutState H A) (o : Option (LayoutState H A)) → f l ≡ Some new
     → g new ≡ o → in_turn f g l ≡ o
 turn_on f g l new o h k = ap (option_and_then g) h ∙ k
 
-pub turn_off : {H A : Type 0} (f g : Step H A) (l : Laying H A) → f l ≡ None → in_turn f g l ≡ None
+pub turn_off : {H A : Type 0} (f g : Step H A) (l : LayoutState H A) → f l ≡ None → in_turn f g l ≡ None
 turn_off f g l h = ap (option_and_then g) h
 
 pub then_then : {A B C : Type 0} (f : A → Option B) (g : B → Option C) (o : Option A)

@@ -1,18 +1,17 @@
 -- What is done where a value begins and where it ends.
 use Rattle.std.specs.Prelude.{ℕ, Bool, true, false, List, Option, Some, if◌then◌else◌}
-use Rattle.block_trait.specs.Calls.{adds_image, adds_text, breaks_line, ends_block, ends_colour, ends_line}
-use Rattle.block_trait.specs.Calls.{ends_mark, ends_mode, ends_preformat, ends_strikeout, starts_block}
-use Rattle.block_trait.specs.Calls.{starts_colour, starts_fragment, starts_mark, starts_mode, starts_preformat}
-use Rattle.block_trait.specs.Calls.{starts_strikeout}
+use Rattle.block_trait.specs.Calls.{adds_image, adds_text, breaks_line, ends_block, ends_colour, ends_line, ends_mark}
+use Rattle.block_trait.specs.Calls.{ends_mode, ends_preformat, ends_strikeout, starts_block, starts_colour}
+use Rattle.block_trait.specs.Calls.{starts_fragment, starts_mark, starts_mode, starts_preformat, starts_strikeout}
 use Rattle.block_trait.specs.Renderers.{Marking}
-use Rattle.text_decorators.specs.Marks.{background_end, background_start, code_end, code_start, colour_end, colour_start}
-use Rattle.text_decorators.specs.Marks.{emphasis_end, emphasis_start, strong_end, strong_start, superscript_end}
-use Rattle.text_decorators.specs.Marks.{superscript_start}
+use Rattle.text_decorators.specs.Marks.{background_end, background_start, code_end, code_start, colour_end}
+use Rattle.text_decorators.specs.Marks.{colour_start, emphasis_end, emphasis_start, strong_end, strong_start}
+use Rattle.text_decorators.specs.Marks.{superscript_end, superscript_start}
 use Rattle.render_values.specs.declared.info.Head.{Head}
 use Rattle.render_values.specs.declared.info.RenderInfo.{RenderInfo}
 use Rattle.render_values.specs.declared.info.RenderInfo.TheVariants as infos
 use Rattle.render_values.specs.declared.style.RenderStyle.{RenderStyle}
-use Rattle.layout_state.specs.Laying.{Step, begins_link, ends_link, for_some, in_turn, says}
+use Rattle.layout_state.specs.LayoutState.{Step, begins_link, ends_link, for_some, in_turn, says}
 
 -- ---- before what stands in a value, and after it
 

@@ -5,7 +5,7 @@ use Rattle.block_trait.specs.Renderers.{Marking}
 use Rattle.text_lines.specs.Columns.{text_columns}
 use Rattle.text_decorators.specs.Marks.{Mark, header, ordered_item, quote, unordered_item}
 use Rattle.render_sizes.specs.Extents.{PrefixColumns}
-use Rattle.layout_state.specs.Laying.{Laying, mark_of}
+use Rattle.layout_state.specs.LayoutState.{LayoutState, mark_of}
 use Rattle.layout_state.specs.declared.around.ItemMark.{ItemMark}
 use Rattle.layout_state.specs.declared.around.ItemMark.TheVariants.{Bullet, Number}
 
@@ -34,7 +34,7 @@ last_mark Bullet items = Bullet
 last_mark (Number z) items = Number (number_after z (items - 1))
 
 -- An item has the columns of the wider of the first and the last prefix.
-abbrev pub item_columns : {H A : Type 0} → Marking H A → (first last : ItemMark) → Laying H A → ℕ
+abbrev pub item_columns : {H A : Type 0} → Marking H A → (first last : ItemMark) → LayoutState H A → ℕ
 item_columns m first last l =
     max (text_columns (mark_of m (item_mark first) l)) (text_columns (mark_of m (item_mark last) l))
 

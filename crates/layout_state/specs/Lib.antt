@@ -1,4 +1,4 @@
 pub mod Begins
 pub mod Items
-pub mod Laying
+pub mod LayoutState
 pub mod Seen

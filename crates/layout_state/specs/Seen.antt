@@ -9,8 +9,8 @@ use Rattle.block_trait.specs.Renderers.{Marking, Sub}
 use Rattle.table_widths.specs.Tables.{rows_left}
 use Rattle.table_widths.specs.declared.slot.Slot.{Slot}
 use Rattle.text_block_renderer.specs.SeenParts.{current_has_failed, page_has_failed, parts_of}
-use Rattle.layout_state.specs.Laying.{Laying, Step, TablePlace, cells, outside, rows}
-use Rattle.layout_state.specs.declared.laying.Laying.{Laying as CodeLaying}
+use Rattle.layout_state.specs.LayoutState.{LayoutState, Step, TablePlace, cells, outside, rows}
+use Rattle.layout_state.specs.declared.laying.LayoutState.{LayoutState as CodeLaying}
 use Rattle.layout_state.specs.declared.place.SlotsLeft.{SlotsLeft}
 use Rattle.layout_state.specs.declared.place.TablePlace.{TablePlace as CodePlace}
 use Rattle.layout_state.specs.declared.place.TablePlace.TheVariants.{Outside, Rows, Cells}
@@ -32,7 +32,7 @@ place_of seen held (Rows r) =
 place_of seen held (Cells r slots made) = cells (widths_seen r.widths) (rows_left r.rows)
     r.fragments.items (slots_left slots) (made_of seen held made.items)
 
-abbrev pub laying_of : {D T H A : Type 0} → (T → A) → (D → H) → CodeLaying D T → Laying H A
+abbrev pub laying_of : {D T H A : Type 0} → (T → A) → (D → H) → CodeLaying D T → LayoutState H A
 laying_of seen held l =
     record { parts = parts_of seen held l.text; around = l.around; table = place_of seen held l.table }
 

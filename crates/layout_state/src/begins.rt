@@ -3,7 +3,7 @@ ghost use Rattle.std.specs.Prelude.{◌≡◌, ◌⊎◌, Err, IfErr, OnOk};
 ghost use Rattle.layout_state.specs.Begins.{fragment_leads};
 ghost use Rattle.text_pieces.specs.declared.fault.BlockError.TheVariants as errors;
 
-use crate::laying::Laying;
+use crate::laying::LayoutState;
 use html_lexemes::Text;
 use render_values::{Head, RenderInfo};
 use text_decorators::TextDecorator;
@@ -25,12 +25,12 @@ fn fragment_leads(info: &RenderInfo) -> bool
     }
 }
 
-impl<D: TextDecorator + Drop> Laying<D> {
+impl<D: TextDecorator + Drop> LayoutState<D> {
     ghost use Rattle.text_decorators.specs.Marks.{emphasis_end, emphasis_start};
     ghost use Rattle.block_trait.specs.Calls.{ends_block, ends_line, ends_mark, ends_preformat, starts_block};
     ghost use Rattle.block_trait.specs.Calls.{starts_mark, starts_preformat};
     ghost use Rattle.layout_state.specs.Begins.{begins, ends, following, leading, named};
-    ghost use Rattle.layout_state.specs.Laying.{in_turn, says};
+    ghost use Rattle.layout_state.specs.LayoutState.{in_turn, says};
     ghost use Rattle.layout_state.specs.Seen.{Comes, Fails, IsWorking};
 
     /// Before what stands in a value.

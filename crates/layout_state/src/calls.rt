@@ -2,24 +2,23 @@
 ghost use Rattle.std.specs.Prelude.{◌≡◌, ◌⊎◌, Err, IfErr, IsOk, OnOk, chars, map, true};
 ghost use Rattle.text_pieces.specs.declared.fault.BlockError.TheVariants as errors;
 
-use crate::laying::Laying;
-use block_trait::Renderer;
+use crate::laying::LayoutState;
 use block_renderer::SubRenderer;
+use block_trait::Renderer;
 use text_decorators::{Colour, TextDecorator};
 use text_pieces::{BlockError, WhiteSpace};
 
-impl<D: TextDecorator + Drop> Laying<D> {
+impl<D: TextDecorator + Drop> LayoutState<D> {
     ghost use Rattle.text_decorators.specs.Marks.{background_end, background_start, code_end, code_start, colour_end};
     ghost use Rattle.text_decorators.specs.Marks.{colour_start, emphasis_end, emphasis_start, strong_end, strong_start};
     ghost use Rattle.text_decorators.specs.Marks.{superscript_end, superscript_start};
     ghost use Rattle.block_renderer.specs.Seen.{sub_of};
-    ghost use Rattle.block_trait.specs.Calls.{adds_border, adds_border_of, adds_cells, adds_rows_below};
-    ghost use Rattle.block_trait.specs.Calls.{adds_image, adds_text, breaks_line, ends_block, ends_colour};
-    ghost use Rattle.block_trait.specs.Calls.{ends_line, starts_table};
-    ghost use Rattle.block_trait.specs.Calls.{ends_mark, ends_mode, ends_preformat, ends_strikeout, starts_block};
-    ghost use Rattle.block_trait.specs.Calls.{starts_colour, starts_fragment, starts_mark, starts_mode};
-    ghost use Rattle.block_trait.specs.Calls.{starts_preformat, starts_strikeout};
-    ghost use Rattle.layout_state.specs.Laying.{begins_link, ends_link, says};
+    ghost use Rattle.block_trait.specs.Calls.{adds_border, adds_border_of, adds_cells, adds_image, adds_rows_below};
+    ghost use Rattle.block_trait.specs.Calls.{adds_text, breaks_line, ends_block, ends_colour, ends_line, ends_mark};
+    ghost use Rattle.block_trait.specs.Calls.{ends_mode, ends_preformat, ends_strikeout, starts_block, starts_colour};
+    ghost use Rattle.block_trait.specs.Calls.{starts_fragment, starts_mark, starts_mode, starts_preformat};
+    ghost use Rattle.block_trait.specs.Calls.{starts_strikeout, starts_table};
+    ghost use Rattle.layout_state.specs.LayoutState.{begins_link, ends_link, says};
     ghost use Rattle.layout_state.specs.Seen.{Comes, Fails, IsWorking, made_of};
 
     pub fn start_block(&mut self) -> Result<(), BlockError>

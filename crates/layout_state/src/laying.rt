@@ -5,7 +5,7 @@ use text_decorators::TextDecorator;
 
 /// A page that is laid out.
 #[derive(Drop)]
-pub struct Laying<D: TextDecorator> {
+pub struct LayoutState<D: TextDecorator> {
     /// Its renderers.
     pub text: TextRenderer<D>,
     /// What a list around says of the next value.

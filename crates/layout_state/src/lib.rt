@@ -18,7 +18,7 @@
 //! layout_state has the page that is laid out: its renderers, what a list around says of the next value, where in
 //! a table that stands; and the calls that values make, each of which is a step of the definition, or refused where
 //! that comes to nothing. layout_tables has what a table makes of it, and layout_values what each value opens and
-//! what then waits for its end (`specs/Waiting.antt`): what waits comes to the rest of the definition, the last
+//! what then waits for its end (`specs/Continuation.antt`): what waits comes to the rest of the definition, the last
 //! first.
 //!
 //! - `table_widths`, `rows_of`, `is_fenced`, `slot_width` (layout_tables): exactly the widths of a table's columns
@@ -52,6 +52,6 @@ mod parts;
 mod place;
 
 pub use around::{Around, ItemMark};
-pub use laying::Laying;
+pub use laying::LayoutState;
 pub use parts::spaces;
 pub use place::{SlotsLeft, TablePlace, TableRows};

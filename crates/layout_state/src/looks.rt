@@ -2,16 +2,16 @@
 ghost use Rattle.std.specs.Prelude.{◌≡◌, ◌⊎◌, Err, IfErr, OnOk};
 ghost use Rattle.text_pieces.specs.declared.fault.BlockError.TheVariants as errors;
 
-use crate::laying::Laying;
+use crate::laying::LayoutState;
 use render_values::RenderStyle;
 use text_decorators::{Colour, TextDecorator};
 use text_pieces::{BlockError, WhiteSpace};
 
-impl<D: TextDecorator + Drop> Laying<D> {
+impl<D: TextDecorator + Drop> LayoutState<D> {
     ghost use Rattle.text_decorators.specs.Marks.{background_end, background_start, colour_end, colour_start};
     ghost use Rattle.block_trait.specs.Calls.{ends_colour, ends_mode, starts_colour, starts_mode};
     ghost use Rattle.layout_state.specs.Begins.{style_begins, style_ends};
-    ghost use Rattle.layout_state.specs.Laying.{for_some, says};
+    ghost use Rattle.layout_state.specs.LayoutState.{for_some, says};
     ghost use Rattle.layout_state.specs.Seen.{Comes, Fails, IsWorking};
 
     pub fn begin_colour(&mut self, colour: Option<Colour>) -> Result<(), BlockError>

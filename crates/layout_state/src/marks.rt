@@ -4,12 +4,12 @@ ghost use Rattle.text_pieces.specs.declared.fault.BlockError.TheVariants as erro
 ghost use Rattle.layout_state.specs.Items.{last_mark, next_mark, padded};
 
 use crate::around::ItemMark;
-use crate::laying::Laying;
+use crate::laying::LayoutState;
 use crate::parts::push_spaces;
 use block_trait::Renderer;
 use std::alloc::AllocError;
-use text_lines::columns_of;
 use text_decorators::TextDecorator;
+use text_lines::columns_of;
 use text_pieces::BlockError;
 
 impl ItemMark {
@@ -45,10 +45,10 @@ fn fill(text: &mut String, columns: usize) -> Result<(), AllocError>
     push_spaces(text, missing)
 }
 
-impl<D: TextDecorator + Drop> Laying<D> {
+impl<D: TextDecorator + Drop> LayoutState<D> {
     ghost use Rattle.block_renderer.specs.Seen.{marking};
     ghost use Rattle.layout_state.specs.Items.{item_columns, item_mark};
-    ghost use Rattle.layout_state.specs.Laying.{mark_of};
+    ghost use Rattle.layout_state.specs.LayoutState.{mark_of};
     ghost use Rattle.layout_state.specs.Seen.{IsWorking, laying_of};
 
     // the prefix of an item

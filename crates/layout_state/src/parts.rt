@@ -1,13 +1,13 @@
 //! Parts of a page, each in a renderer of its own.
-ghost use Rattle.std.specs.Prelude.{◌≡◌, ◌++◌, ◌-◌, ◌⊎◌, Err, IfErr, IfOk, OnOk, Some, None, chars, false};
+ghost use Rattle.std.specs.Prelude.{◌≡◌, ◌++◌, ◌-◌, ◌⊎◌, Err, IfErr, IfOk, None, OnOk, Some, chars, false};
 ghost use Rattle.std.specs.Prelude.{string_bytes};
 ghost use Rattle.text_pieces.specs.declared.fault.BlockError.TheVariants as errors;
 ghost use Rattle.layout_state.specs.Items.{spaces};
 
 use crate::around::Around;
-use crate::laying::Laying;
-use block_trait::Renderer;
+use crate::laying::LayoutState;
 use block_renderer::SubRenderer;
+use block_trait::Renderer;
 use std::alloc::{AllocError, Global};
 use text_decorators::TextDecorator;
 use text_pieces::BlockError;
@@ -31,22 +31,22 @@ pub fn spaces(alloc: Global, columns: usize) -> Result<String, AllocError>
     Ok(text)
 }
 
-impl<D: TextDecorator + Drop> Laying<D> {
+impl<D: TextDecorator + Drop> LayoutState<D> {
     ghost use Rattle.text_decorators.specs.Marks.{header, quote};
     ghost use Rattle.block_renderer.specs.Seen.{has_failed, marking, sub_of};
-    ghost use Rattle.block_trait.specs.Renderers.{room_behind};
-    ghost use Rattle.layout_state.specs.Laying.{in_part, mark_of, part_begun, part_ended};
+    ghost use Rattle.block_trait.specs.Renderers.{room_after};
+    ghost use Rattle.layout_state.specs.LayoutState.{in_part, mark_of, part_begun, part_ended};
     ghost use Rattle.layout_state.specs.Seen.{Comes, Fails, IsWorking, laying_of};
 
     // the columns of a part after a prefix, of which at least so many are asked for with those of the prefix
     fn room(&self, columns: usize, least: usize) -> Result<usize, BlockError>
-        ensures room { IfOk result (λ n. room_behind columns (least - columns) (laying_of D.Annotation.seen D.view.held
+        ensures room { IfOk result (λ n. room_after columns (least - columns) (laying_of D.Annotation.seen D.view.held
             self.now).parts.current ≡ Some n) }
-        ensures narrow { IfErr result (λ e. (e ≡ errors.TooNarrow) × (room_behind columns (least - columns)
+        ensures narrow { IfErr result (λ e. (e ≡ errors.TooNarrow) × (room_after columns (least - columns)
             (laying_of D.Annotation.seen D.view.held self.now).parts.current ≡ None)) }
     {
-        let behind = least.saturating_sub(columns);
-        match self.text.current().width_minus(columns, behind) {
+        let trailing = least.saturating_sub(columns);
+        match self.text.current().width_minus(columns, trailing) {
             Ok(width) => Ok(width),
             Err(_) => Err(BlockError::TooNarrow),
         }

@@ -1,6 +1,6 @@
 -- Renderers that stand in the slots of a row.
-use Rattle.std.proofs.Common.{◌≡◌, ℕ, suc, ◌+◌, ◌<◌, ◌≤◌, Bool, true, false, List, [], ◌∷◌, ◌++◌, ap, append-nil}
-use Rattle.std.proofs.Common.{append_assoc, arith, cond, drop, filter, get_or, length, map, refl, sym, take, ◌∙◌}
+use Rattle.std.proofs.Common.{◌≡◌, ◌+◌, ◌<◌, ◌≤◌, [], ◌∷◌, ◌++◌, ◌∙◌, Bool, List, ap, append-nil, append_assoc, arith}
+use Rattle.std.proofs.Common.{cond, drop, false, filter, get_or, length, map, refl, suc, sym, take, true, ℕ}
 use Rattle.std.proofs.lemmas.List.{drop_all, drop_more, map-append}
 use Rattle.std.proofs.lemmas.List.Sums.{prefix_len-drop_all, prefix_len-drop_no, prefix_len-drop_yes}
 use Rattle.std.specs.List.{prefix_len}

@@ -1,6 +1,6 @@
 -- Widths of columns, and of slots among them.
-use Rattle.std.proofs.Common.{◌≡◌, ℕ, ◌+◌, ◌-◌, ◌^◌, ◌<◌, ◌≤◌, List, ap, arith, drop, get_or, length, length-drop, max}
-use Rattle.std.proofs.Common.{min, sum, sym, take, ◌∙◌}
+use Rattle.std.proofs.Common.{◌≡◌, ◌+◌, ◌-◌, ◌^◌, ◌<◌, ◌≤◌, ◌∙◌, List, ap, arith, drop, get_or, length, length-drop}
+use Rattle.std.proofs.Common.{max, min, sum, sym, take, ℕ}
 use Rattle.std.proofs.lemmas.List.{drop_all, drop_min, take_min}
 use Rattle.std.proofs.lemmas.List.Sums.{sum_by-drop_more}
 use Rattle.render_sizes.specs.Extents.{capped}

@@ -1,7 +1,6 @@
 -- How a table is laid out: its rows, across or with cells below one another, and their cells.
-use Rattle.std.specs.Prelude.{ℕ, ◌+◌, ◌-◌, Bool, true, false, ◌&&◌, not, if◌then◌else◌, List, [], ◌∷◌, ◌++◌}
-use Rattle.std.specs.Prelude.{Option, None, Some}
-use Rattle.std.specs.Prelude.{codes, drop, filter, length, map, sum, take}
+use Rattle.std.specs.Prelude.{◌+◌, ◌-◌, ◌&&◌, if◌then◌else◌, [], ◌∷◌, ◌++◌, Bool, List, None, Option, Some, codes, drop}
+use Rattle.std.specs.Prelude.{false, filter, length, map, not, sum, take, true, ℕ}
 use Rattle.std.specs.List.{prefix_len}
 use Rattle.std.specs.Option.{option_to_list}
 use Rattle.block_renderer.specs.NewParts.{part_of}
@@ -14,8 +13,8 @@ use Rattle.render_sizes.specs.Extents.{capped}
 use Rattle.table_grid.specs.declared.columns.Column.{Column}
 use Rattle.table_widths.specs.Slots.{Table, across, has_columns}
 use Rattle.table_widths.specs.declared.slot.Slot.{Slot}
-use Rattle.layout_state.specs.Laying.{Laying, Step, TablePlace, cells, goes_to, in_current, in_part, in_table, in_turn}
-use Rattle.layout_state.specs.Laying.{outside, rows, says}
+use Rattle.layout_state.specs.LayoutState.{LayoutState, Step, TablePlace, cells, goes_to, in_current, in_part, in_table}
+use Rattle.layout_state.specs.LayoutState.{in_turn, outside, rows, says}
 
 -- columns of these widths, with a separator between neighbours
 abbrev pub separated : List ℕ → ℕ
@@ -127,7 +126,7 @@ start_all m [] = Some
 start_all m (name ∷ names) = in_turn (says m (starts_fragment name)) (start_all m names)
 
 -- text goes to the renderer of a cell
-unfoldable pub in_cell : {H A : Type 0} → Marking H A → (width : ℕ) → Laying H A → Laying H A
+unfoldable pub in_cell : {H A : Type 0} → Marking H A → (width : ℕ) → LayoutState H A → LayoutState H A
 in_cell m width l = in_table (outside true) (in_part m width l)
 
 unfoldable pub cell_begun : {H A : Type 0} → Marking H A → (width : ℕ) → (fragments : List (List ℕ)) → Step H A

@@ -7,13 +7,13 @@ ghost use Rattle.text_pieces.specs.declared.fault.BlockError.TheVariants as erro
 
 use block_renderer::SubRenderer;
 use html_lexemes::Text;
-use layout_state::{Laying, TablePlace};
+use layout_state::{LayoutState, TablePlace};
 use text_decorators::TextDecorator;
 use text_pieces::BlockError;
 
 // fragments start, one after another
 fn start_all<D: TextDecorator + Drop>(
-    laying: &mut Laying<D>,
+    laying: &mut LayoutState<D>,
     names: &[Text],
 ) -> Result<(), BlockError>
     requires { IsWorking D.Annotation.seen D.view.held laying.old }
@@ -29,10 +29,10 @@ fn start_all<D: TextDecorator + Drop>(
     Ok(())
 }
 
-/// Text goes to a renderer of a cell from here on, of so many columns, and fragments start there; the renderer outside is
-/// given. The error is `TooNarrow` where the cell has no room, else `Memory`.
+/// Text goes to a renderer of a cell from here on, of so many columns, and fragments start there; the renderer outside
+/// is given. The error is `TooNarrow` where the cell has no room, else `Memory`.
 pub fn begin_cell<D: TextDecorator + Drop>(
-    laying: &mut Laying<D>,
+    laying: &mut LayoutState<D>,
     width: usize,
     names: &[Text],
 ) -> Result<SubRenderer<D>, BlockError>

@@ -1,7 +1,7 @@
 //! The fragments of a row, and its end.
 ghost use Rattle.std.specs.Prelude.{◌≡◌, ◌⊎◌, ℕ, ◌++◌, Err, IfErr, List, OnOk, Option};
 ghost use Rattle.std.specs.Option.{is_some, option_to_list};
-ghost use Rattle.layout_state.specs.Laying.{says};
+ghost use Rattle.layout_state.specs.LayoutState.{says};
 ghost use Rattle.layout_state.specs.Seen.{Comes, Fails, IsWorking, made_of};
 ghost use Rattle.layout_tables.specs.Tables.{row_call, row_ended};
 ghost use Rattle.text_pieces.specs.declared.fault.BlockError.TheVariants as errors;
@@ -9,7 +9,7 @@ ghost use Rattle.text_pieces.specs.declared.fault.BlockError.TheVariants as erro
 use crate::slots::{push_rest, renderers_of};
 use block_renderer::SubRenderer;
 use html_lexemes::Text;
-use layout_state::{Laying, TablePlace};
+use layout_state::{LayoutState, TablePlace};
 use std::alloc::{AllocError, Global};
 use std::mem;
 use text_decorators::TextDecorator;
@@ -27,7 +27,7 @@ pub fn push_name(names: &mut Vec<Text>, name: &Option<Text>) -> Result<(), Alloc
 
 // the renderers that stand in a row go below one another, or side by side
 fn add_row<D: TextDecorator + Drop>(
-    laying: &mut Laying<D>,
+    laying: &mut LayoutState<D>,
     alloc: Global,
     is_across: bool,
     made: Vec<(SubRenderer<D>, usize)>,
@@ -51,7 +51,7 @@ fn add_row<D: TextDecorator + Drop>(
 /// A row ends: what is left of its slots stays empty, and its renderers go below one another, or side by side. The
 /// error is `TooNarrow` where they have no room, else `Memory`.
 pub fn end_row<D: TextDecorator + Drop>(
-    laying: &mut Laying<D>,
+    laying: &mut LayoutState<D>,
     alloc: Global,
 ) -> Result<(), BlockError>
     requires { IsWorking D.Annotation.seen D.view.held laying.old }

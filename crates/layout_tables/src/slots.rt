@@ -2,13 +2,14 @@
 ghost use Rattle.std.specs.Prelude.{◌≡◌, ◌++◌, ◌∷◌, [], IfErr, IfOk, OnOk, filter, map};
 ghost use Rattle.block_renderer.specs.Seen.{marking, sub_of};
 ghost use Rattle.layout_state.specs.Seen.{IsWorking, laying_of, made_of, slots_left, widths_seen};
-ghost use Rattle.layout_tables.specs.Tables.{empties_before, empty_slots, from_cell, renderer_of, separated, slot_width};
+ghost use Rattle.layout_tables.specs.Tables.{empties_before, empty_slots, from_cell, renderer_of, separated};
+ghost use Rattle.layout_tables.specs.Tables.{slot_width};
 ghost use Rattle.table_widths.specs.Slots.{has_columns};
 ghost use Rattle.text_pieces.specs.declared.fault.BlockError.TheVariants as errors;
 
-use block_trait::Renderer;
 use block_renderer::SubRenderer;
-use layout_state::{Laying, SlotsLeft};
+use block_trait::Renderer;
+use layout_state::{LayoutState, SlotsLeft};
 use std::alloc::{AllocError, Global};
 use table_widths::Slot;
 use text_decorators::TextDecorator;
@@ -41,7 +42,7 @@ pub fn slot_width(widths: &Option<Vec<usize>>, whole: usize, slot: Slot) -> usiz
 
 // an empty renderer stands in a slot
 fn push_empty<D: TextDecorator + Drop>(
-    laying: &mut Laying<D>,
+    laying: &mut LayoutState<D>,
     widths: &Option<Vec<usize>>,
     slot: Slot,
     made: &mut Vec<(SubRenderer<D>, usize)>,
@@ -63,7 +64,7 @@ fn push_empty<D: TextDecorator + Drop>(
 
 // so one does where the slot has a column
 fn push_kept<D: TextDecorator + Drop>(
-    laying: &mut Laying<D>,
+    laying: &mut LayoutState<D>,
     widths: &Option<Vec<usize>>,
     slot: Slot,
     made: &mut Vec<(SubRenderer<D>, usize)>,
@@ -85,7 +86,7 @@ fn push_kept<D: TextDecorator + Drop>(
 
 /// Empty renderers stand in all slots with columns that are left of a row.
 pub(crate) fn push_rest<D: TextDecorator + Drop>(
-    laying: &mut Laying<D>,
+    laying: &mut LayoutState<D>,
     widths: &Option<Vec<usize>>,
     slots: &SlotsLeft,
     made: &mut Vec<(SubRenderer<D>, usize)>,
@@ -110,7 +111,7 @@ pub(crate) fn push_rest<D: TextDecorator + Drop>(
 
 /// Empty renderers stand in the slots before the next cell, which are taken. The error is allocation failure.
 pub fn push_empties<D: TextDecorator + Drop>(
-    laying: &mut Laying<D>,
+    laying: &mut LayoutState<D>,
     widths: &Option<Vec<usize>>,
     slots: &mut SlotsLeft,
     made: &mut Vec<(SubRenderer<D>, usize)>,

@@ -7,11 +7,11 @@ ghost use Rattle.table_widths.specs.Tables.{rows_left, table_seen};
 ghost use Rattle.text_pieces.specs.declared.fault.BlockError.TheVariants as errors;
 
 use crate::slots::separated;
-use table_widths::{RowsLeft, Table, widths_across};
-use layout_state::{Laying, TablePlace};
 use block_trait::RenderOptions;
+use layout_state::{LayoutState, TablePlace};
 use std::alloc::{AllocError, Global};
 use table_grid::Column;
+use table_widths::{RowsLeft, Table, widths_across};
 use text_decorators::TextDecorator;
 use text_pieces::BlockError;
 
@@ -55,7 +55,7 @@ pub fn is_fenced<D: TextDecorator>(options: &RenderOptions, place: &TablePlace<D
 /// The line above a table that is fenced, and the one below it. The error is `TooNarrow` where a character is wider
 /// than its line and may not stand alone, else `Memory`.
 pub fn fence<D: TextDecorator + Drop>(
-    laying: &mut Laying<D>,
+    laying: &mut LayoutState<D>,
     fenced: bool,
 ) -> Result<(), BlockError>
     requires { IsWorking D.Annotation.seen D.view.held laying.old }
@@ -74,7 +74,7 @@ pub fn fence<D: TextDecorator + Drop>(
 /// The border above the first row, where borders are drawn. The error is `TooNarrow` where there is no room for it,
 /// else `Memory`.
 pub fn top_border<D: TextDecorator + Drop>(
-    laying: &mut Laying<D>,
+    laying: &mut LayoutState<D>,
     options: &RenderOptions,
     widths: &Option<Vec<usize>>,
 ) -> Result<(), BlockError>

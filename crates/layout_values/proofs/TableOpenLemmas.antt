@@ -1,13 +1,13 @@
 -- What tables, rows and cells leave to be done.
-use Rattle.std.proofs.Common.{◌≡◌, ℕ, ◌≤◌, Bool, true, false, IfSome, List, [], ◌∷◌, ◌++◌, Option, None, Some}
-use Rattle.std.proofs.Common.{ap, append_assoc, arith, if◌then◌else◌, length, map, refl, sym, ◌∙◌}
+use Rattle.std.proofs.Common.{◌≡◌, ◌≤◌, [], ◌∷◌, ◌++◌, if◌then◌else◌, ◌∙◌, Bool, IfSome, List, None, Option, Some, ap}
+use Rattle.std.proofs.Common.{append_assoc, arith, false, length, map, refl, sym, true, ℕ}
 use Rattle.std.proofs.lemmas.List.{map-append}
 use Rattle.std.proofs.lemmas.List.Elements.{All-cons, All-head, All-nil, All-tail}
 use Rattle.std.specs.Option.{option_and_then}
 use Rattle.std.specs.Prelude.{All}
 use Rattle.layout_state.proofs.StepLemmas.{turn_off, turn_on}
 use Rattle.layout_state.specs.Begins.{named}
-use Rattle.layout_state.specs.Laying.{Laying, Step, TablePlace, cells, goes_to, in_part, in_table, in_turn}
+use Rattle.layout_state.specs.LayoutState.{LayoutState, Step, TablePlace, cells, goes_to, in_part, in_table, in_turn}
 use Rattle.render_sizes.specs.Extents.{Measure}
 use Rattle.render_values.specs.declared.info.Head.{Head}
 use Rattle.render_values.specs.declared.info.RenderInfo.{RenderInfo}
@@ -16,10 +16,8 @@ use Rattle.render_values.specs.declared.style.RenderStyle.{RenderStyle}
 use Rattle.layout_values.specs.Lay.{Content, among_cells, among_rows, laid, laid_at, styled}
 use Rattle.layout_values.specs.Seen.{maybe, where_entered}
 use Rattle.layout_tables.specs.Tables.{cell_begun, cell_ended, cell_laid, empties_before, empty_slots, from_cell}
-use Rattle.layout_tables.specs.Tables.{in_cell, in_slot}
-use Rattle.layout_tables.specs.Tables.{row_ended}
-use Rattle.layout_tables.specs.Tables.{slot_width, table_ended}
-use Rattle.layout_values.specs.Waiting.{Waiting, cell_ends, row_ends, table_ends, unwound}
+use Rattle.layout_tables.specs.Tables.{in_cell, in_slot, row_ended, slot_width, table_ended}
+use Rattle.layout_values.specs.Continuation.{Continuation, cell_ends, row_ends, table_ends, unwound}
 use Rattle.block_trait.specs.Renderers.{Marking, Sub}
 use Rattle.table_widths.specs.Slots.{has_columns}
 use Rattle.table_widths.specs.declared.slot.Slot.{Slot}
@@ -56,34 +54,34 @@ whichever_measure = record {
 }
 
 -- what may be left out, where it is, and where it isn't
-pub left_out : {H A : Type 0} (m : Marking H A) (w : Measure) (xs : List (Waiting H A)) (entered : Bool)
-    (inside : Step H A) (new : Laying H A) (whole : Option (Laying H A)) → entered ≡ false
+pub left_out : {H A : Type 0} (m : Marking H A) (w : Measure) (xs : List (Continuation H A)) (entered : Bool)
+    (inside : Step H A) (new : LayoutState H A) (whole : Option (LayoutState H A)) → entered ≡ false
     → whole ≡ option_and_then (unwound m w xs) (where_entered entered inside new)
     → whole ≡ option_and_then (unwound m w xs) (Some new)
 left_out m w xs entered inside new whole is h =
     h ∙ ap (λ b. option_and_then (unwound m w xs) (where_entered b inside new)) is
 
-pub let_in : {H A : Type 0} (m : Marking H A) (w : Measure) (xs : List (Waiting H A)) (entered : Bool)
-    (inside : Step H A) (new : Laying H A) (whole : Option (Laying H A)) → entered ≡ true
+pub let_in : {H A : Type 0} (m : Marking H A) (w : Measure) (xs : List (Continuation H A)) (entered : Bool)
+    (inside : Step H A) (new : LayoutState H A) (whole : Option (LayoutState H A)) → entered ≡ true
     → whole ≡ option_and_then (unwound m w xs) (where_entered entered inside new)
     → whole ≡ option_and_then (unwound m w xs) (inside new)
 let_in m w xs entered inside new whole is h =
     h ∙ ap (λ b. option_and_then (unwound m w xs) (where_entered b inside new)) is
 
 pub row_left_out : {H A : Type 0} (m : Marking H A) (w : Measure) (shown : Bool) (inside : Step H A)
-    (new : Laying H A) (whole : Option (Laying H A)) → shown ≡ false → whole ≡ where_entered shown inside new
+    (new : LayoutState H A) (whole : Option (LayoutState H A)) → shown ≡ false → whole ≡ where_entered shown inside new
     → whole ≡ option_and_then (unwound m w []) (Some new)
 row_left_out m w shown inside new whole is h =
     h ∙ (ap (λ b. where_entered b inside new) is ∙ nothing_waits m w (Some new))
 
-pub row_let_in : {H A : Type 0} (shown : Bool) (inside : Step H A) (new : Laying H A) (whole : Option (Laying H A))
+pub row_let_in : {H A : Type 0} (shown : Bool) (inside : Step H A) (new : LayoutState H A) (whole : Option (LayoutState H A))
     → shown ≡ true → whole ≡ where_entered shown inside new → whole ≡ inside new
 row_let_in shown inside new whole is h = h ∙ ap (λ b. where_entered b inside new) is
 
 -- ---- tables
 
 pub table_waits : {H A : Type 0} (m : Marking H A) (w : Measure) (inside : Step H A) (fenced : Bool)
-    (place there : TablePlace H A) (new : Laying H A) → place ≡ there
+    (place there : TablePlace H A) (new : LayoutState H A) → place ≡ there
     → option_and_then (table_ended m fenced there) (inside new)
     ≡ option_and_then (unwound m w (table_ends fenced place ∷ [])) (inside new)
 table_waits m w inside fenced place there new same =
@@ -92,8 +90,8 @@ table_waits m w inside fenced place there new same =
 
 -- ---- rows
 
-pub row_opens : {X H A : Type 0} (f : X → Waiting H A) (m : Marking H A) (w : Measure) (style : RenderStyle)
-    (inside : Step H A) (xs : List X) (last : X) (mid new : Laying H A) (whole : Option (Laying H A))
+pub row_opens : {X H A : Type 0} (f : X → Continuation H A) (m : Marking H A) (w : Measure) (style : RenderStyle)
+    (inside : Step H A) (xs : List X) (last : X) (mid new : LayoutState H A) (whole : Option (LayoutState H A))
     → f last ≡ row_ends → whole ≡ styled m style (in_turn inside (row_ended m)) mid
     → ((x : Step H A) → styled m style x mid ≡ option_and_then (unwound m w (map f xs)) (x new))
     → whole ≡ option_and_then (unwound m w (map f (xs ++ last ∷ []))) (inside new)
@@ -108,7 +106,7 @@ row_opens f m w style inside xs last mid new whole is h look =
 
 pub slot_ended : {H A : Type 0} (m : Marking H A) (w : Measure) (widths : Option (List ℕ)) (more : List (List Slot))
     (fragments fs : List (List ℕ)) (slots : List Slot) (made : List (Sub H A × ℕ)) (inside : Step H A)
-    (l : Laying H A) → slots ≡ [] → fs ≡ [] → in_slot m widths more fragments slots made inside l
+    (l : LayoutState H A) → slots ≡ [] → fs ≡ [] → in_slot m widths more fragments slots made inside l
     ≡ option_and_then (unwound m w []) (Some (in_table (cells widths more fs slots made) l))
 slot_ended m w widths more fragments fs slots made inside l none no_fs =
     ap (λ v. in_slot m widths more fragments v made inside l) none
@@ -118,7 +116,7 @@ slot_ended m w widths more fragments fs slots made inside l none no_fs =
 
 pub slot_skipped : {H A : Type 0} (m : Marking H A) (w : Measure) (widths : Option (List ℕ)) (more : List (List Slot))
     (fragments fs : List (List ℕ)) (slots left : List Slot) (s : Slot) (made : List (Sub H A × ℕ)) (inside : Step H A)
-    (l : Laying H A) → slots ≡ s ∷ left → has_columns s ≡ false → fs ≡ []
+    (l : LayoutState H A) → slots ≡ s ∷ left → has_columns s ≡ false → fs ≡ []
     → in_slot m widths more fragments slots made inside l
     ≡ option_and_then (unwound m w []) (Some (in_table (cells widths more fs left made) l))
 slot_skipped {H} {A} m w widths more fragments fs slots left s made inside l first narrow no_fs =
@@ -131,7 +129,7 @@ slot_skipped {H} {A} m w widths more fragments fs slots left s made inside l fir
 
 pub slot_taken : {H A : Type 0} (m : Marking H A) (widths : Option (List ℕ)) (more : List (List Slot))
     (fragments names : List (List ℕ)) (slots left : List Slot) (s : Slot) (width : ℕ) (made : List (Sub H A × ℕ))
-    (inside : Step H A) (l : Laying H A) (o : Option (Laying H A)) → slots ≡ s ∷ left → has_columns s ≡ true
+    (inside : Step H A) (l : LayoutState H A) (o : Option (LayoutState H A)) → slots ≡ s ∷ left → has_columns s ≡ true
     → width ≡ slot_width widths l.parts.current.width s → names ≡ fragments → cell_begun m width names l ≡ o
     → in_slot m widths more fragments slots made inside l
     ≡ option_and_then (in_turn inside (cell_ended l.parts.current widths more left made s.rows)) o
@@ -145,7 +143,7 @@ slot_taken {H} {A} m widths more fragments names slots left s width made inside 
 
 pub cell_waits : {H A : Type 0} (m : Marking H A) (w : Measure) (inside : Step H A) (outer here : Sub H A)
     (widths : Option (List ℕ)) (more : List (List Slot)) (left : List Slot) (made : List (Sub H A × ℕ)) (taken : ℕ)
-    (new : Laying H A) → outer ≡ here
+    (new : LayoutState H A) → outer ≡ here
     → option_and_then (cell_ended here widths more left made taken) (inside new)
     ≡ option_and_then (unwound m w (cell_ends outer widths more left made taken ∷ [])) (inside new)
 cell_waits m w inside outer here widths more left made taken new same =
@@ -155,7 +153,7 @@ cell_waits m w inside outer here widths more left made taken new same =
 -- A cell is laid out alike wherever values stood before.
 any_place : {H A : Type 0} (m : Marking H A) (widths : Option (List ℕ)) (more : List (List Slot))
     (fragments : List (List ℕ)) (slots : List Slot) (made : List (Sub H A × ℕ)) (inside : Step H A)
-    (l : Laying H A) (place : TablePlace H A) → in_slot m widths more fragments slots made inside (in_table place l)
+    (l : LayoutState H A) (place : TablePlace H A) → in_slot m widths more fragments slots made inside (in_table place l)
     ≡ in_slot m widths more fragments slots made inside l
 unfolding cell_begun in_cell in_part
 any_place m widths more fragments [] made inside l place = refl
@@ -163,28 +161,28 @@ any_place m widths more fragments (s ∷ slots) made inside l place = refl
 
 pub cell_at_any : {H A : Type 0} (m : Marking H A) (widths : Option (List ℕ)) (more : List (List Slot))
     (fragments : List (List ℕ)) (slots : List Slot) (made : List (Sub H A × ℕ)) (inside : Step H A)
-    (l : Laying H A) (place : TablePlace H A) → cell_laid m widths more fragments slots made inside (in_table place l)
+    (l : LayoutState H A) (place : TablePlace H A) → cell_laid m widths more fragments slots made inside (in_table place l)
     ≡ cell_laid m widths more fragments slots made inside l
 unfolding cell_laid
 cell_at_any m widths more fragments slots made inside l place = any_place m widths more fragments (from_cell slots)
     (made ++ empty_slots m widths l.parts.current (empties_before slots)) inside l place
 
-pub cell_behind : {H A : Type 0} (m : Marking H A) (widths : Option (List ℕ)) (more : List (List Slot))
+pub cell_after : {H A : Type 0} (m : Marking H A) (widths : Option (List ℕ)) (more : List (List Slot))
     (fragments : List (List ℕ)) (slots left : List Slot) (made all : List (Sub H A × ℕ)) (inside : Step H A)
-    (l mid : Laying H A) (o : Option (Laying H A)) → mid ≡ l → left ≡ from_cell slots
+    (l mid : LayoutState H A) (o : Option (LayoutState H A)) → mid ≡ l → left ≡ from_cell slots
     → all ≡ made ++ empty_slots m widths l.parts.current (empties_before slots)
     → in_slot m widths more fragments left all inside mid ≡ o
     → cell_laid m widths more fragments slots made inside l ≡ o
 unfolding cell_laid
-cell_behind m widths more fragments slots left made all inside l mid o same behind whole h =
+cell_after m widths more fragments slots left made all inside l mid o same trailing whole h =
     ap (λ v. in_slot m widths more fragments v (made ++ empty_slots m widths l.parts.current (empties_before slots))
-    inside l) (sym behind)
+    inside l) (sym trailing)
     ∙ (ap (λ v. in_slot m widths more fragments left v inside l) (sym whole)
     ∙ (ap (λ x. in_slot m widths more fragments left all inside x) (sym same) ∙ h))
 
-pub cell_opens : {X H A : Type 0} (f : X → Waiting H A) (m : Marking H A) (w : Measure) (g : Step H A → Step H A)
+pub cell_opens : {X H A : Type 0} (f : X → Continuation H A) (m : Marking H A) (w : Measure) (g : Step H A → Step H A)
     (style : RenderStyle) (fragment : Option (List ℕ)) (inside : Step H A) (xs ys : List X)
-    (old one two new : Laying H A)
+    (old one two new : LayoutState H A)
     → ((x : Step H A) → g x old ≡ option_and_then (unwound m w (map f xs)) (x one))
     → ((x : Step H A) → styled m style x one ≡ option_and_then (unwound m w (map f ys)) (x two))
     → named m fragment two ≡ Some new → g (styled m style (in_turn (named m fragment) inside)) old
@@ -195,14 +193,14 @@ cell_opens f m w g style fragment inside xs ys old one two new cell look h =
     ∙ (ap (λ v. option_and_then (unwound m w v) (in_turn (named m fragment) inside two)) (sym (map-append f xs ys))
     ∙ ap (option_and_then (unwound m w (map f (xs ++ ys)))) (turn_on (named m fragment) inside two new _ h refl))
 
-pub no_cell_look : {H A : Type 0} (m : Marking H A) (w : Measure) (g : Step H A → Step H A) (xs : List (Waiting H A))
-    (inside : Step H A) (old one : Laying H A)
+pub no_cell_look : {H A : Type 0} (m : Marking H A) (w : Measure) (g : Step H A → Step H A) (xs : List (Continuation H A))
+    (inside : Step H A) (old one : LayoutState H A)
     → ((x : Step H A) → g x old ≡ option_and_then (unwound m w xs) (x one)) → inside one ≡ None
     → g inside old ≡ None
 no_cell_look m w g xs inside old one h never = h inside ∙ ap (option_and_then (unwound m w xs)) never
 
 pub no_cell_name : {H A : Type 0} (m : Marking H A) (w : Measure) (g : Step H A → Step H A) (style : RenderStyle)
-    (fragment : Option (List ℕ)) (inside : Step H A) (xs ys : List (Waiting H A)) (old one two : Laying H A)
+    (fragment : Option (List ℕ)) (inside : Step H A) (xs ys : List (Continuation H A)) (old one two : LayoutState H A)
     → ((x : Step H A) → g x old ≡ option_and_then (unwound m w xs) (x one))
     → ((x : Step H A) → styled m style x one ≡ option_and_then (unwound m w ys) (x two))
     → named m fragment two ≡ None → g (styled m style (in_turn (named m fragment) inside)) old ≡ None
@@ -215,7 +213,7 @@ no_cell_name m w g style fragment inside xs ys old one two cell look never =
 
 pub nothing_among_rows : {H A : Type 0} (m : Marking H A) (w : Measure) (info : RenderInfo) (head : Head)
     (widths : Option (List ℕ)) (slots : List (List Slot)) (fragments : List (List ℕ)) (inside : Step H A)
-    (l : Laying H A) → (info ≡ infos.TableGroup → ⊥) → (info ≡ infos.TableRow → ⊥)
+    (l : LayoutState H A) → (info ≡ infos.TableGroup → ⊥) → (info ≡ infos.TableRow → ⊥)
     → among_rows m info head widths slots fragments inside l ≡ option_and_then (unwound m w []) (Some l)
 nothing_among_rows m w infos.Nothing head widths slots fragments inside l a b = nothing_waits m w (Some l)
 nothing_among_rows m w (infos.Text cs) head widths slots fragments inside l a b = nothing_waits m w (Some l)
@@ -245,7 +243,7 @@ nothing_among_rows m w (infos.TableCell columns taken) head widths slots fragmen
     (Some l)
 
 pub nothing_among_cells : {H A : Type 0} (m : Marking H A) (w : Measure) (info : RenderInfo) (head : Head)
-    (place : TablePlace H A) (inside : Step H A) (l : Laying H A)
+    (place : TablePlace H A) (inside : Step H A) (l : LayoutState H A)
     → ((columns taken : ℕ) → info ≡ infos.TableCell columns taken → ⊥)
     → among_cells m info head place inside l ≡ option_and_then (unwound m w []) (Some l)
 nothing_among_cells m w infos.Nothing head place inside l a = nothing_waits m w (Some l)
@@ -274,7 +272,7 @@ nothing_among_cells m w infos.TableGroup head place inside l a = nothing_waits m
 nothing_among_cells m w infos.TableRow head place inside l a = nothing_waits m w (Some l)
 nothing_among_cells m w (infos.TableCell columns taken) head place inside l a = absurd (a columns taken refl)
 
-pub laid_at_place : {H A : Type 0} (m : Marking H A) (head : Head) (c : Content) (inside : Step H A) (l : Laying H A)
+pub laid_at_place : {H A : Type 0} (m : Marking H A) (head : Head) (c : Content) (inside : Step H A) (l : LayoutState H A)
     (place : TablePlace H A) → l.table ≡ place
     → laid m head c inside l ≡ laid_at m head c place inside (in_table place l)
 laid_at_place m head c inside l place is = ap (λ p. laid_at m head c p inside (in_table p l)) is

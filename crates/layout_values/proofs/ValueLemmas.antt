@@ -1,7 +1,6 @@
 -- What waits after a value that was opened.
-use Rattle.std.proofs.Common.{◌≡◌, Bool, true, false, ◌≤◌, List, [], ◌∷◌, ◌++◌, Option, None, Some, IfSome, arith}
-use Rattle.std.proofs.Common.{sym, ap}
-use Rattle.std.proofs.Common.{◌∙◌, append_assoc, length, map, subst}
+use Rattle.std.proofs.Common.{◌≡◌, ◌≤◌, [], ◌∷◌, ◌++◌, ◌∙◌, Bool, IfSome, List, None, Option, Some, ap, append_assoc}
+use Rattle.std.proofs.Common.{arith, false, length, map, subst, sym, true}
 use Rattle.std.specs.Prelude.{All}
 use Rattle.std.proofs.lemmas.List.{map-append}
 use Rattle.std.proofs.lemmas.List.Elements.{All-cons, All-head, All-nil, All-tail}
@@ -12,9 +11,9 @@ use Rattle.render_values.specs.declared.info.Head.{Head}
 use Rattle.render_values.specs.declared.style.RenderStyle.{RenderStyle}
 use Rattle.layout_state.specs.Begins.{begins, ends, following, leading}
 use Rattle.layout_values.specs.Lay.{Content, holds, placed, shown, styled}
-use Rattle.layout_state.specs.Laying.{Laying, Step, in_turn}
+use Rattle.layout_state.specs.LayoutState.{LayoutState, Step, in_turn}
 use Rattle.layout_values.specs.Seen.{maybe, where_entered}
-use Rattle.layout_values.specs.Waiting.{Waiting, unwound}
+use Rattle.layout_values.specs.Continuation.{Continuation, unwound}
 use Rattle.layout_state.specs.declared.around.Around.{Around}
 use Rattle.layout_state.proofs.StepLemmas.{turn_off, turn_on}
 use Rattle.layout_values.proofs.StepLemmas.{opens_both}
@@ -52,13 +51,13 @@ two_on old one new xs ys h k = k ∙ (ap (λ v. v ++ ys) h ∙ append_assoc old 
 -- ---- values
 
 pub no_lead : {H A : Type 0} (m : Marking H A) (head : Head) (c : Content) (inside : Step H A)
-    (old : Laying H A) → leading m head old ≡ None → shown m head c inside old ≡ None
+    (old : LayoutState H A) → leading m head old ≡ None → shown m head c inside old ≡ None
 no_lead m head c inside old h =
     turn_off (leading m head) (in_turn (begins m head.info)
     (in_turn (holds m head.info c (in_turn (following m head) inside)) (ends m head.info))) old h
 
 pub no_begin : {H A : Type 0} (m : Marking H A) (head : Head) (c : Content) (inside : Step H A)
-    (old led : Laying H A) → leading m head old ≡ Some led → begins m head.info led ≡ None
+    (old led : LayoutState H A) → leading m head old ≡ Some led → begins m head.info led ≡ None
     → shown m head c inside old ≡ None
 no_begin m head c inside old led h k =
     turn_on (leading m head) (in_turn (begins m head.info)
@@ -67,7 +66,7 @@ no_begin m head c inside old led h k =
     (in_turn (holds m head.info c (in_turn (following m head) inside)) (ends m head.info)) led k)
 
 pub no_hold : {H A : Type 0} (m : Marking H A) (head : Head) (c : Content) (inside : Step H A)
-    (old led begun : Laying H A) → leading m head old ≡ Some led → begins m head.info led ≡ Some begun
+    (old led begun : LayoutState H A) → leading m head old ≡ Some led → begins m head.info led ≡ Some begun
     → holds m head.info c (in_turn (following m head) inside) begun ≡ None
     → shown m head c inside old ≡ None
 no_hold m head c inside old led begun h k never =
@@ -78,7 +77,7 @@ no_hold m head c inside old led begun h k never =
     (ap (option_and_then (ends m head.info)) never))
 
 pub no_follow : {H A : Type 0} (m : Marking H A) (w : Measure) (head : Head) (c : Content) (inside : Step H A)
-    (old led begun held : Laying H A) (parts : List (Waiting H A)) (is_entered : Bool) → is_entered ≡ true
+    (old led begun held : LayoutState H A) (parts : List (Continuation H A)) (is_entered : Bool) → is_entered ≡ true
     → leading m head old ≡ Some led → begins m head.info led ≡ Some begun
     → ((x : Step H A) → holds m head.info c x begun
     ≡ option_and_then (unwound m w parts) (where_entered is_entered x held))
@@ -89,8 +88,8 @@ no_follow m w head c inside old led begun held parts true is h k p never =
     ∙ ap (λ o. option_and_then (unwound m w parts) (option_and_then inside o)) never)
 no_follow m w head c inside old led begun held parts false is h k p never = absurd (cc is)
 
-pub value_opens : {X H A : Type 0} (f : X → Waiting H A) (m : Marking H A) (w : Measure) (around : Around)
-    (style : RenderStyle) (within : Step H A) (xs ys zs : List X) (old one two : Laying H A) (o : Option (Laying H A))
+pub value_opens : {X H A : Type 0} (f : X → Continuation H A) (m : Marking H A) (w : Measure) (around : Around)
+    (style : RenderStyle) (within : Step H A) (xs ys zs : List X) (old one two : LayoutState H A) (o : Option (LayoutState H A))
     → ((x : Step H A) → placed m around x old ≡ option_and_then (unwound m w (map f xs)) (x one))
     → ((x : Step H A) → styled m style x one ≡ option_and_then (unwound m w (map f ys)) (x two))
     → within two ≡ option_and_then (unwound m w (map f zs)) o
@@ -102,14 +101,14 @@ value_opens f m w around style within xs ys zs old one two o h k l =
     (ap (λ v. map f xs ++ v) (sym (map-append f ys zs)) ∙ sym (map-append f xs (ys ++ zs)))
 
 pub no_look : {H A : Type 0} (m : Marking H A) (w : Measure) (around : Around) (style : RenderStyle)
-    (inside : Step H A) (xs : List (Waiting H A)) (old one : Laying H A)
+    (inside : Step H A) (xs : List (Continuation H A)) (old one : LayoutState H A)
     → ((x : Step H A) → placed m around x old ≡ option_and_then (unwound m w xs) (x one))
     → styled m style inside one ≡ None → placed m around (styled m style inside) old ≡ None
 no_look m w around style inside xs old one h never =
     h (styled m style inside) ∙ ap (option_and_then (unwound m w xs)) never
 
 pub no_shown : {H A : Type 0} (m : Marking H A) (w : Measure) (around : Around) (style : RenderStyle)
-    (inside : Step H A) (xs ys : List (Waiting H A)) (old one two : Laying H A)
+    (inside : Step H A) (xs ys : List (Continuation H A)) (old one two : LayoutState H A)
     → ((x : Step H A) → placed m around x old ≡ option_and_then (unwound m w xs) (x one))
     → ((x : Step H A) → styled m style x one ≡ option_and_then (unwound m w ys) (x two))
     → inside two ≡ None → placed m around (styled m style inside) old ≡ None

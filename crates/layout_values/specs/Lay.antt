@@ -7,8 +7,8 @@ use Rattle.text_block_renderer.specs.Parts.{Parts}
 use Rattle.text_decorators.specs.Marks.{Mark, header, quote}
 use Rattle.layout_state.specs.Begins.{begins, ends, following, leading, named, style_begins, style_ends}
 use Rattle.layout_state.specs.Items.{item_columns, item_mark, last_mark, next_mark, padded, spaces}
-use Rattle.layout_state.specs.Laying.{Laying, Step, TablePlace, behind_prefix, cells, goes_on, goes_to, in_turn}
-use Rattle.layout_state.specs.Laying.{mark_of, outside, rows}
+use Rattle.layout_state.specs.LayoutState.{LayoutState, Step, TablePlace, after_prefix, cells, goes_on, goes_to}
+use Rattle.layout_state.specs.LayoutState.{in_turn, mark_of, outside, rows}
 use Rattle.layout_state.specs.declared.around.Around.{Around}
 use Rattle.layout_state.specs.declared.around.Around.TheVariants.{Flow, Items}
 use Rattle.layout_state.specs.declared.around.ItemMark.{ItemMark}
@@ -33,7 +33,7 @@ listed m first items least inside l = in_turn
 -- An item stands after its mark, which is filled up with spaces, and its further lines after spaces.
 abbrev pub item_laid : {H A : Type 0} → Marking H A → ItemMark → (columns least : ℕ) → Step H A → Step H A
 item_laid m mark columns least inside l = in_turn
-    (behind_prefix m columns (padded columns (mark_of m (item_mark mark) l)) (spaces columns) least inside)
+    (after_prefix m columns (padded columns (mark_of m (item_mark mark) l)) (spaces columns) least inside)
     (goes_on (Items (next_mark mark) columns least)) l
 
 -- a value where it stands: in a list it is an item
@@ -55,14 +55,14 @@ table_of w infos.Table inside = table_in w inside
 table_of w _ inside = no_table
 
 -- what stands in a value: in some it is laid out in a part, after a prefix, and in lists as items
-abbrev pub behind_mark : {H A : Type 0} → Marking H A → Mark → (least : ℕ) → Step H A → Step H A
-behind_mark m kind least inside l =
-    behind_prefix m (text_columns (mark_of m kind l)) (mark_of m kind l) (mark_of m kind l) least inside l
+abbrev pub after_mark : {H A : Type 0} → Marking H A → Mark → (least : ℕ) → Step H A → Step H A
+after_mark m kind least inside l =
+    after_prefix m (text_columns (mark_of m kind l)) (mark_of m kind l) (mark_of m kind l) least inside l
 
 unfoldable pub holds : {H A : Type 0} → Marking H A → RenderInfo → Content → Step H A → Step H A
-holds m (infos.Heading level) c inside = behind_mark m (header level) c.least inside
-holds m infos.Quote c inside = behind_mark m quote c.least inside
-holds m infos.Details c inside = behind_prefix m 2 (spaces 2) (spaces 2) c.least inside
+holds m (infos.Heading level) c inside = after_mark m (header level) c.least inside
+holds m infos.Quote c inside = after_mark m quote c.least inside
+holds m infos.Details c inside = after_prefix m 2 (spaces 2) (spaces 2) c.least inside
 holds m infos.Bullets c inside = listed m Bullet c.items c.least inside
 holds m (infos.Numbers first) c inside = listed m (Number first) c.items c.least inside
 holds m infos.Table c inside = table_laid m c.table inside
@@ -138,7 +138,7 @@ lay m w none l = Some l
 lay m w (value head inside rest) l = in_turn (laid m head (content_of w head inside) (lay m w inside)) (lay m w rest) l
 
 -- in renderers of a page, outside of all lists and tables
-abbrev pub on_page : {H A : Type 0} → Parts H A → Laying H A
+abbrev pub on_page : {H A : Type 0} → Parts H A → LayoutState H A
 on_page p = record { parts = p; around = Flow; table = outside false }
 
 abbrev pub laid_parts : {H A : Type 0} → Marking H A → (w : Measure) → Values → Parts H A → Option (Parts H A)

@@ -1,3 +1,3 @@
 pub mod Lay
 pub mod Seen
-pub mod Waiting
+pub mod Continuation

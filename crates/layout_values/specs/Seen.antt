@@ -1,7 +1,6 @@
 -- What contracts see of a page that is laid out.
-use Rattle.std.specs.Prelude.{◌≡◌, ℕ, ◌+◌, ◌*◌, ◌-◌, ◌≤◌, ◌++◌, All, Bool, true, false, if◌then◌else◌, List, []}
-use Rattle.std.specs.Prelude.{◌∷◌, Option, None, Some, nat_lt}
-use Rattle.std.specs.Prelude.{chars, length, map, string_bytes}
+use Rattle.std.specs.Prelude.{◌≡◌, ◌+◌, ◌*◌, ◌-◌, ◌≤◌, ◌++◌, if◌then◌else◌, [], ◌∷◌, All, Bool, List, None, Option}
+use Rattle.std.specs.Prelude.{Some, chars, false, length, map, nat_lt, string_bytes, true, ℕ}
 use Rattle.std.specs.Option.{option_and_then}
 use Rattle.text_decorators.specs.Marks.{DecoratorView}
 use Rattle.block_renderer.specs.Seen.{IsTagging, has_failed, marking, sub_of}
@@ -16,40 +15,40 @@ use Rattle.render_values.specs.declared.info.RenderInfo.{RenderInfo}
 use Rattle.render_values.specs.declared.info.RenderInfo.TheVariants as infos
 use Rattle.layout_values.specs.Lay.{Content, laid, laid_outside, lay}
 use Rattle.layout_values.specs.declared.content.Content.{Content as CodeContent}
-use Rattle.layout_state.specs.Laying.{Laying, Step}
-use Rattle.layout_values.specs.Waiting.{Waiting, info_at, item_ends, list_ends, look_ends, part_ends, rest, segment}
-use Rattle.layout_values.specs.Waiting.{cell_ends, row_ends, table_ends, unwound, value_ends}
+use Rattle.layout_state.specs.LayoutState.{LayoutState, Step}
+use Rattle.layout_values.specs.Continuation.{Continuation, cell_ends, info_at, item_ends, list_ends, look_ends}
+use Rattle.layout_values.specs.Continuation.{part_ends, rest, row_ends, segment, table_ends, unwound, value_ends}
 use Rattle.layout_state.specs.Seen.{laying_of, made_of, place_of, slots_left, widths_seen}
 use Rattle.table_widths.specs.Tables.{rows_left, table_seen}
-use Rattle.layout_state.specs.declared.laying.Laying.{Laying as CodeLaying}
+use Rattle.layout_state.specs.declared.laying.LayoutState.{LayoutState as CodeLaying}
 use Rattle.layout_values.specs.declared.waiting.OpenCell.{OpenCell}
 use Rattle.layout_values.specs.declared.waiting.OpenItem.{OpenItem}
 use Rattle.layout_values.specs.declared.waiting.OpenPart.{OpenPart}
 use Rattle.layout_values.specs.declared.waiting.OpenTable.{OpenTable}
-use Rattle.layout_values.specs.declared.waiting.Waiting.{Waiting as CodeWaiting}
-use Rattle.layout_values.specs.declared.waiting.Waiting.TheVariants.{Rest, ValueEnds, LookEnds, PartEnds, ItemEnds}
-use Rattle.layout_values.specs.declared.waiting.Waiting.TheVariants.{CellEnds, ListEnds, RowEnds, TableEnds}
+use Rattle.layout_values.specs.declared.waiting.Continuation.{Continuation as CodeWaiting}
+use Rattle.layout_values.specs.declared.waiting.Continuation.TheVariants.{CellEnds, ItemEnds, ListEnds, LookEnds}
+use Rattle.layout_values.specs.declared.waiting.Continuation.TheVariants.{PartEnds, Rest, RowEnds, TableEnds, ValueEnds}
 
 -- ---- what waits
 
-abbrev pub open_part_of : {D T H A : Type 0} → (T → A) → (D → H) → OpenPart D T → Waiting H A
+abbrev pub open_part_of : {D T H A : Type 0} → (T → A) → (D → H) → OpenPart D T → Continuation H A
 open_part_of seen held part =
     part_ends (sub_of seen held part.outer) (chars (string_bytes part.first)) (chars (string_bytes part.following))
 
-abbrev pub open_item_of : {D T H A : Type 0} → (T → A) → (D → H) → OpenItem D T → Waiting H A
+abbrev pub open_item_of : {D T H A : Type 0} → (T → A) → (D → H) → OpenItem D T → Continuation H A
 open_item_of seen held item =
     item_ends (sub_of seen held item.outer) (chars (string_bytes item.first)) (chars (string_bytes item.following))
     item.around
 
-abbrev pub open_table_of : {D T H A : Type 0} → (T → A) → (D → H) → OpenTable D T → Waiting H A
+abbrev pub open_table_of : {D T H A : Type 0} → (T → A) → (D → H) → OpenTable D T → Continuation H A
 open_table_of seen held table = table_ends table.fenced (place_of seen held table.place)
 
-abbrev pub open_cell_of : {D T H A : Type 0} → (T → A) → (D → H) → OpenCell D T → Waiting H A
+abbrev pub open_cell_of : {D T H A : Type 0} → (T → A) → (D → H) → OpenCell D T → Continuation H A
 open_cell_of seen held cell =
     cell_ends (sub_of seen held cell.outer) (widths_seen cell.rows.widths) (rows_left cell.rows.rows)
     (slots_left cell.slots) (made_of seen held cell.made.items) cell.taken
 
-abbrev pub waiting_of : {D T H A : Type 0} → (T → A) → (D → H) → List RenderNode → CodeWaiting D T → Waiting H A
+abbrev pub waiting_of : {D T H A : Type 0} → (T → A) → (D → H) → List RenderNode → CodeWaiting D T → Continuation H A
 waiting_of seen held nodes (Rest from to) = rest (values_of (segment nodes from to))
 waiting_of seen held nodes (ValueEnds at) = value_ends (info_at nodes at)
 waiting_of seen held nodes (LookEnds style) = look_ends style
@@ -61,7 +60,7 @@ waiting_of seen held nodes RowEnds = row_ends
 waiting_of seen held nodes (CellEnds cell) = open_cell_of seen held cell.value
 
 abbrev pub all_waiting : {D T H A : Type 0} → (T → A) → (D → H) → List RenderNode → List (CodeWaiting D T)
-    → List (Waiting H A)
+    → List (Continuation H A)
 all_waiting seen held nodes items = map (waiting_of seen held nodes) items
 
 -- the values of nodes wait, unless there are none
@@ -139,10 +138,10 @@ NeverOpens seen view f old = (tag : _) → IsTagging seen view tag
 -- out
 pub record IsOpened {D T H A : Type 0} (seen : T → A) (view : DecoratorView D H T) (most : ℕ) (nodes : List RenderNode)
     (entered : Bool)
-    (f : Marking H A → Step H A → Step H A) (before behind : List (CodeWaiting D T)) (old new : CodeLaying D T)
+    (f : Marking H A → Step H A → Step H A) (before trailing : List (CodeWaiting D T)) (old new : CodeLaying D T)
     : Type 0 where
   pub items : List (CodeWaiting D T)
-  pub pushed : behind ≡ before ++ items
+  pub pushed : trailing ≡ before ++ items
   pub works : All WorksOutside items
   pub few : length items ≤ most
   pub opens : (tag : _) → IsTagging seen view tag → (w : Measure) (inside : Step H A)
@@ -166,8 +165,8 @@ AreAlike _ c d = Unit {0}
 
 -- Outside of tables a value is laid out as it is, and nothing was done yet.
 abbrev pub StandsOutside : {D T H A : Type 0} → (T → A) → (D → H) → Head → (old new : CodeLaying D T)
-    → (before behind : List (CodeWaiting D T)) → Type 0
-StandsOutside {D} {T} {H} {A} seen held head old new before behind = (behind ≡ before)
+    → (before trailing : List (CodeWaiting D T)) → Type 0
+StandsOutside {D} {T} {H} {A} seen held head old new before trailing = (trailing ≡ before)
     × ((laying_of seen held new ≡ laying_of seen held old)
     × ((m : Marking H A) (content : Content) (inside : Step H A) → laid m head content inside (laying_of seen held old)
     ≡ laid_outside m head content inside (laying_of seen held old)))
@@ -176,7 +175,7 @@ StandsOutside {D} {T} {H} {A} seen held head old new before behind = (behind ≡
 
 -- what comes of the values of the nodes at a place, and of all that waits
 abbrev pub left : {D T H A : Type 0} → (T → A) → (D → H) → Marking H A → List RenderNode → Measure → (at end : ℕ)
-    → List (CodeWaiting D T) → CodeLaying D T → Option (Laying H A)
+    → List (CodeWaiting D T) → CodeLaying D T → Option (LayoutState H A)
 left seen held m nodes w at end items l = option_and_then (unwound m w (all_waiting seen held nodes items))
     (lay m w (values_of (segment nodes at end)) (laying_of seen held l))
 
@@ -184,9 +183,9 @@ left seen held m nodes w at end items l = option_and_then (unwound m w (all_wait
 abbrev pub GoesOn : {D T H A : Type 0} → (T → A) → DecoratorView D H T → List RenderNode → Measure
     → (at end : ℕ) → List (CodeWaiting D T) → CodeLaying D T → (new_at new_end : ℕ) → List (CodeWaiting D T)
     → CodeLaying D T → Type 0
-GoesOn seen view nodes w at end before old new_at new_end behind new =
+GoesOn seen view nodes w at end before old new_at new_end trailing new =
     (tag : _) → IsTagging seen view tag
-    → left seen view.held (marking view tag) nodes w new_at new_end behind new
+    → left seen view.held (marking view tag) nodes w new_at new_end trailing new
     ≡ left seen view.held (marking view tag) nodes w at end before old
 
 abbrev pub NeverGoes : {D T H A : Type 0} → (T → A) → DecoratorView D H T → List RenderNode → Measure

@@ -1,9 +1,8 @@
 //! Cells of tables.
 ghost use Rattle.std.specs.Prelude.{◌≡◌, ◌⊎◌, Err, IfErr, IfOk, IfSome, List, OnOk, false};
 ghost use Rattle.std.specs.Option.{is_some};
-ghost use Rattle.layout_state.specs.Laying.{in_table};
-ghost use Rattle.layout_state.specs.Seen.{IsWorking, made_of, place_of, slots_left};
-ghost use Rattle.layout_state.specs.Seen.{widths_seen};
+ghost use Rattle.layout_state.specs.LayoutState.{in_table};
+ghost use Rattle.layout_state.specs.Seen.{IsWorking, made_of, place_of, slots_left, widths_seen};
 ghost use Rattle.layout_state.specs.declared.place.TablePlace.TheVariants.{Cells};
 ghost use Rattle.render_values.specs.declared.node.RenderNode.{RenderNode};
 ghost use Rattle.layout_values.specs.Lay.{among_cells, in_its_slot};
@@ -14,25 +13,25 @@ ghost use Rattle.text_pieces.specs.declared.fault.BlockError.TheVariants as erro
 
 use crate::looking::open_look;
 use crate::values::push_some;
-use crate::waiting::{OpenCell, Waiting};
-use block_trait::Renderer;
+use crate::waiting::{Continuation, OpenCell};
 use block_renderer::SubRenderer;
-use layout_state::{Laying, SlotsLeft, TablePlace, TableRows};
+use block_trait::Renderer;
+use layout_state::{LayoutState, SlotsLeft, TablePlace, TableRows};
+use layout_tables::{begin_cell, push_empties, slot_width};
 use render_values::{Head, RenderInfo};
 use std::alloc::Global;
 use std::mem;
-use layout_tables::{begin_cell, push_empties, slot_width};
 use text_decorators::TextDecorator;
 use text_pieces::BlockError;
 
 // A cell begins in the first of the slots that are left, where it has a column.
 fn open_slot<D: TextDecorator + Drop>(
-    laying: &mut Laying<D>,
+    laying: &mut LayoutState<D>,
     alloc: Global,
     rows: TableRows,
     slots: SlotsLeft,
     made: Vec<(SubRenderer<D>, usize)>,
-) -> Result<Option<Waiting<D>>, BlockError>
+) -> Result<Option<Continuation<D>>, BlockError>
     requires { IsWorking D.Annotation.seen D.view.held laying.old }
     ensures opened { IfOk result (λ x. OpensWhere D.Annotation.seen D.view (λ m. in_slot m (widths_seen rows.widths)
         (rows_left rows.rows) rows.fragments.items (slots_left slots) (made_of D.Annotation.seen D.view.held
@@ -69,17 +68,17 @@ fn open_slot<D: TextDecorator + Drop>(
             taken: slot.rows,
         },
     )?;
-    Ok(Some(Waiting::CellEnds(cell)))
+    Ok(Some(Continuation::CellEnds(cell)))
 }
 
 /// A cell begins after the empty slots before it; none where it has no column.
 fn open_cell<D: TextDecorator + Drop>(
-    laying: &mut Laying<D>,
+    laying: &mut LayoutState<D>,
     alloc: Global,
     rows: TableRows,
     slots: SlotsLeft,
     made: Vec<(SubRenderer<D>, usize)>,
-) -> Result<Option<Waiting<D>>, BlockError>
+) -> Result<Option<Continuation<D>>, BlockError>
     requires { IsWorking D.Annotation.seen D.view.held laying.old }
     ensures opened { IfOk result (λ x. OpensWhere D.Annotation.seen D.view (λ m. cell_laid m (widths_seen rows.widths)
         (rows_left rows.rows) rows.fragments.items (slots_left slots) (made_of D.Annotation.seen D.view.held
@@ -99,13 +98,13 @@ fn open_cell<D: TextDecorator + Drop>(
 
 // A cell begins, until it ends; whether what stands in it is laid out.
 fn open_in_slot<D: TextDecorator + Drop>(
-    laying: &mut Laying<D>,
+    laying: &mut LayoutState<D>,
     alloc: Global,
     head: &Head,
     rows: TableRows,
     slots: SlotsLeft,
     made: Vec<(SubRenderer<D>, usize)>,
-    waiting: &mut Vec<Waiting<D>>,
+    waiting: &mut Vec<Continuation<D>>,
 ) -> Result<bool, BlockError>
     requires { IsWorking D.Annotation.seen D.view.held laying.old }
     ensures opened { (nodes : List RenderNode) → IfOk result (λ entered. IsOpened D.Annotation.seen D.view 2 nodes
@@ -130,13 +129,13 @@ fn open_in_slot<D: TextDecorator + Drop>(
 
 /// A value begins among cells; whether what stands in it is laid out.
 pub(crate) fn open_among_cells<D: TextDecorator + Drop>(
-    laying: &mut Laying<D>,
+    laying: &mut LayoutState<D>,
     alloc: Global,
     head: &Head,
     rows: TableRows,
     slots: SlotsLeft,
     made: Vec<(SubRenderer<D>, usize)>,
-    waiting: &mut Vec<Waiting<D>>,
+    waiting: &mut Vec<Continuation<D>>,
 ) -> Result<bool, BlockError>
     requires { IsWorking D.Annotation.seen D.view.held laying.old }
     ensures opened { (nodes : List RenderNode) → IfOk result (λ entered. IsOpened D.Annotation.seen D.view 2 nodes

@@ -14,4 +14,4 @@ mod waiting;
 pub use content::Content;
 pub use tables::{end_cell, end_table};
 pub use values::open_value;
-pub use waiting::{OpenCell, OpenItem, OpenPart, OpenTable, Waiting};
+pub use waiting::{Continuation, OpenCell, OpenItem, OpenPart, OpenTable};

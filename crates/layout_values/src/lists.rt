@@ -5,19 +5,19 @@ ghost use Rattle.layout_values.specs.Lay.{item_laid, listed, placed};
 ghost use Rattle.layout_state.specs.Seen.{IsWorking};
 ghost use Rattle.layout_values.specs.Seen.{NeverOpens, Opens, WorksOutside, maybe};
 
-use crate::waiting::{OpenItem, Waiting};
-use layout_state::{Around, ItemMark, Laying, spaces};
+use crate::waiting::{Continuation, OpenItem};
+use layout_state::{Around, ItemMark, LayoutState, spaces};
 use std::alloc::Global;
 use text_decorators::TextDecorator;
 use text_pieces::BlockError;
 
 /// What follows are the items of a list.
 pub(crate) fn hold_items<D: TextDecorator + Drop>(
-    laying: &mut Laying<D>,
+    laying: &mut LayoutState<D>,
     first: ItemMark,
     items: usize,
     least: usize,
-) -> Result<Waiting<D>, BlockError>
+) -> Result<Continuation<D>, BlockError>
     requires { IsWorking D.Annotation.seen D.view.held laying.old }
     ensures opened { IfOk result (λ x. Opens D.Annotation.seen D.view (λ m. listed m first items least) (x ∷ [])
         laying.old laying.new) }
@@ -33,16 +33,16 @@ pub(crate) fn hold_items<D: TextDecorator + Drop>(
         columns,
         least,
     };
-    Ok(Waiting::ListEnds)
+    Ok(Continuation::ListEnds)
 }
 
 fn open_item<D: TextDecorator + Drop>(
-    laying: &mut Laying<D>,
+    laying: &mut LayoutState<D>,
     alloc: Global,
     mark: ItemMark,
     columns: usize,
     least: usize,
-) -> Result<Waiting<D>, BlockError>
+) -> Result<Continuation<D>, BlockError>
     requires { IsWorking D.Annotation.seen D.view.held laying.old }
     ensures opened { IfOk result (λ x. Opens D.Annotation.seen D.view (λ m. item_laid m mark columns least) (x ∷ [])
         laying.old laying.new) }
@@ -69,14 +69,14 @@ fn open_item<D: TextDecorator + Drop>(
             around,
         },
     )?;
-    Ok(Waiting::ItemEnds(item))
+    Ok(Continuation::ItemEnds(item))
 }
 
 /// A value begins where it stands: in a list it is an item.
 pub(crate) fn open_place<D: TextDecorator + Drop>(
-    laying: &mut Laying<D>,
+    laying: &mut LayoutState<D>,
     alloc: Global,
-) -> Result<Option<Waiting<D>>, BlockError>
+) -> Result<Option<Continuation<D>>, BlockError>
     requires { IsWorking D.Annotation.seen D.view.held laying.old }
     ensures opened { IfOk result (λ x. Opens D.Annotation.seen D.view (λ m inside l. placed m l.around inside l)
         (maybe x) laying.old laying.new) }

@@ -5,17 +5,17 @@ ghost use Rattle.layout_state.specs.Seen.{IsWorking};
 ghost use Rattle.layout_values.specs.Lay.{styled};
 ghost use Rattle.layout_values.specs.Seen.{NeverOpens, Opens, WorksOutside, maybe};
 
-use crate::waiting::Waiting;
-use layout_state::Laying;
+use crate::waiting::Continuation;
+use layout_state::LayoutState;
 use render_values::RenderStyle;
 use text_decorators::TextDecorator;
 use text_pieces::BlockError;
 
 // a value that a rule of style looks after, until it ends
 pub(crate) fn open_look<D: TextDecorator + Drop>(
-    laying: &mut Laying<D>,
+    laying: &mut LayoutState<D>,
     style: RenderStyle,
-) -> Result<Option<Waiting<D>>, BlockError>
+) -> Result<Option<Continuation<D>>, BlockError>
     requires { IsWorking D.Annotation.seen D.view.held laying.old }
     ensures opened { IfOk result (λ x. Opens D.Annotation.seen D.view (λ m. styled m style) (maybe x) laying.old
         laying.new) }
@@ -29,5 +29,5 @@ pub(crate) fn open_look<D: TextDecorator + Drop>(
         return Ok(None);
     }
     laying.begin_look(style)?;
-    Ok(Some(Waiting::LookEnds(style)))
+    Ok(Some(Continuation::LookEnds(style)))
 }

@@ -1,38 +1,37 @@
 //! Parts of a page, each in a renderer of its own.
-ghost use Rattle.std.specs.Prelude.{◌≡◌, ◌∷◌, [], ◌⊎◌, Err, IfErr, IfOk, OnOk, chars};
-ghost use Rattle.std.specs.Prelude.{string_bytes};
+ghost use Rattle.std.specs.Prelude.{◌≡◌, ◌∷◌, [], ◌⊎◌, Err, IfErr, IfOk, OnOk, chars, string_bytes};
 ghost use Rattle.text_pieces.specs.declared.fault.BlockError.TheVariants as errors;
 ghost use Rattle.layout_state.specs.Items.{spaces};
 ghost use Rattle.text_decorators.specs.Marks.{header, quote};
-ghost use Rattle.layout_values.specs.Lay.{behind_mark};
-ghost use Rattle.layout_state.specs.Laying.{behind_prefix};
+ghost use Rattle.layout_values.specs.Lay.{after_mark};
+ghost use Rattle.layout_state.specs.LayoutState.{after_prefix};
 ghost use Rattle.layout_state.specs.Seen.{IsWorking};
 ghost use Rattle.layout_values.specs.Seen.{NeverOpens, Opens, WorksOutside};
 
-use crate::waiting::{OpenPart, Waiting};
-use layout_state::{Laying, spaces};
+use crate::waiting::{Continuation, OpenPart};
+use layout_state::{LayoutState, spaces};
 use std::alloc::Global;
-use text_lines::columns_of;
 use text_decorators::TextDecorator;
+use text_lines::columns_of;
 use text_pieces::BlockError;
 
 /// What follows is laid out in a part, whose lines are to stand after prefixes.
 pub(crate) fn open_part<D: TextDecorator + Drop>(
-    laying: &mut Laying<D>,
+    laying: &mut LayoutState<D>,
     alloc: Global,
     columns: usize,
     least: usize,
     first: String,
     following: String,
-) -> Result<Waiting<D>, BlockError>
+) -> Result<Continuation<D>, BlockError>
     requires { IsWorking D.Annotation.seen D.view.held laying.old }
     ensures opened { IfOk result (λ x. Opens D.Annotation.seen D.view
-        (λ m. behind_prefix m columns (chars (string_bytes first)) (chars (string_bytes following)) least) (x ∷ [])
+        (λ m. after_prefix m columns (chars (string_bytes first)) (chars (string_bytes following)) least) (x ∷ [])
         laying.old laying.new) }
     ensures works { OnOk result (IsWorking D.Annotation.seen D.view.held laying.new) }
     ensures ready { IfOk result WorksOutside }
     ensures narrow { result ≡ Err errors.TooNarrow → NeverOpens D.Annotation.seen D.view
-        (λ m. behind_prefix m columns (chars (string_bytes first)) (chars (string_bytes following)) least) laying.old }
+        (λ m. after_prefix m columns (chars (string_bytes first)) (chars (string_bytes following)) least) laying.old }
     ensures kinds { IfErr result (λ e. (e ≡ errors.TooNarrow) ⊎ (e ≡ errors.Memory)) }
 {
     let outer = laying.begin_part(columns, least)?;
@@ -44,23 +43,23 @@ pub(crate) fn open_part<D: TextDecorator + Drop>(
             following,
         },
     )?;
-    Ok(Waiting::PartEnds(part))
+    Ok(Continuation::PartEnds(part))
 }
 
 /// A heading stands after its prefix.
 pub(crate) fn hold_heading<D: TextDecorator + Drop>(
-    laying: &mut Laying<D>,
+    laying: &mut LayoutState<D>,
     alloc: Global,
     level: u8,
     least: usize,
-) -> Result<Waiting<D>, BlockError>
+) -> Result<Continuation<D>, BlockError>
     requires { IsWorking D.Annotation.seen D.view.held laying.old }
-    ensures opened { IfOk result (λ x. Opens D.Annotation.seen D.view (λ m. behind_mark m (header level) least)
+    ensures opened { IfOk result (λ x. Opens D.Annotation.seen D.view (λ m. after_mark m (header level) least)
         (x ∷ []) laying.old laying.new) }
     ensures works { OnOk result (IsWorking D.Annotation.seen D.view.held laying.new) }
     ensures ready { IfOk result WorksOutside }
     ensures narrow { result ≡ Err errors.TooNarrow → NeverOpens D.Annotation.seen D.view
-        (λ m. behind_mark m (header level) least) laying.old }
+        (λ m. after_mark m (header level) least) laying.old }
     ensures kinds { IfErr result (λ e. (e ≡ errors.TooNarrow) ⊎ (e ≡ errors.Memory)) }
 {
     let first = laying.heading_prefix(level)?;
@@ -71,17 +70,17 @@ pub(crate) fn hold_heading<D: TextDecorator + Drop>(
 
 /// A quotation stands after its prefix.
 pub(crate) fn hold_quote<D: TextDecorator + Drop>(
-    laying: &mut Laying<D>,
+    laying: &mut LayoutState<D>,
     alloc: Global,
     least: usize,
-) -> Result<Waiting<D>, BlockError>
+) -> Result<Continuation<D>, BlockError>
     requires { IsWorking D.Annotation.seen D.view.held laying.old }
-    ensures opened { IfOk result (λ x. Opens D.Annotation.seen D.view (λ m. behind_mark m quote least) (x ∷ [])
+    ensures opened { IfOk result (λ x. Opens D.Annotation.seen D.view (λ m. after_mark m quote least) (x ∷ [])
         laying.old laying.new) }
     ensures works { OnOk result (IsWorking D.Annotation.seen D.view.held laying.new) }
     ensures ready { IfOk result WorksOutside }
     ensures narrow { result ≡ Err errors.TooNarrow → NeverOpens D.Annotation.seen D.view
-        (λ m. behind_mark m quote least) laying.old }
+        (λ m. after_mark m quote least) laying.old }
     ensures kinds { IfErr result (λ e. (e ≡ errors.TooNarrow) ⊎ (e ≡ errors.Memory)) }
 {
     let first = laying.quote_prefix()?;
@@ -92,17 +91,17 @@ pub(crate) fn hold_quote<D: TextDecorator + Drop>(
 
 /// A description stands after two spaces.
 pub(crate) fn hold_details<D: TextDecorator + Drop>(
-    laying: &mut Laying<D>,
+    laying: &mut LayoutState<D>,
     alloc: Global,
     least: usize,
-) -> Result<Waiting<D>, BlockError>
+) -> Result<Continuation<D>, BlockError>
     requires { IsWorking D.Annotation.seen D.view.held laying.old }
-    ensures opened { IfOk result (λ x. Opens D.Annotation.seen D.view (λ m. behind_prefix m 2 (spaces 2) (spaces 2)
+    ensures opened { IfOk result (λ x. Opens D.Annotation.seen D.view (λ m. after_prefix m 2 (spaces 2) (spaces 2)
         least) (x ∷ []) laying.old laying.new) }
     ensures works { OnOk result (IsWorking D.Annotation.seen D.view.held laying.new) }
     ensures ready { IfOk result WorksOutside }
     ensures narrow { result ≡ Err errors.TooNarrow → NeverOpens D.Annotation.seen D.view
-        (λ m. behind_prefix m 2 (spaces 2) (spaces 2) least) laying.old }
+        (λ m. after_prefix m 2 (spaces 2) (spaces 2) least) laying.old }
     ensures kinds { IfErr result (λ e. (e ≡ errors.TooNarrow) ⊎ (e ≡ errors.Memory)) }
 {
     let first = spaces(alloc, 2)?;

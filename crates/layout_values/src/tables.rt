@@ -1,10 +1,9 @@
 //! Tables, their rows and cells.
-ghost use Rattle.std.specs.Prelude.{◌≡◌, ◌⊎◌, Err, IfErr, IfOk, IfSome, List, None, OnOk, Option};
-ghost use Rattle.std.specs.Prelude.{false, true};
+ghost use Rattle.std.specs.Prelude.{◌≡◌, ◌⊎◌, Err, IfErr, IfOk, IfSome, List, None, OnOk, Option, false, true};
 ghost use Rattle.std.specs.Option.{is_some};
 ghost use Rattle.block_renderer.specs.Seen.{has_failed, sub_of};
 ghost use Rattle.table_widths.specs.Shares.{AreSized};
-ghost use Rattle.layout_state.specs.Laying.{Step, in_table, in_turn};
+ghost use Rattle.layout_state.specs.LayoutState.{Step, in_table, in_turn};
 ghost use Rattle.layout_state.specs.Seen.{Comes, Fails, IsWorking, laying_of, made_of, place_of, slots_left};
 ghost use Rattle.layout_state.specs.Seen.{widths_seen};
 ghost use Rattle.layout_state.specs.declared.place.TablePlace.TheVariants.{Rows};
@@ -12,8 +11,8 @@ ghost use Rattle.render_values.specs.declared.node.RenderNode.{RenderNode};
 ghost use Rattle.layout_values.specs.Lay.{Content, among_rows, in_its_group, in_its_row, laid, styled};
 ghost use Rattle.layout_values.specs.Seen.{IsOpened, NeverOpens, OpensWhere, StandsOutside, WorksOutside, maybe};
 ghost use Rattle.layout_values.specs.Seen.{where_entered};
-ghost use Rattle.layout_tables.specs.Tables.{cell_ended, fence, is_fenced, row_ended, rows_of, table_ended};
-ghost use Rattle.layout_tables.specs.Tables.{table_laid, table_widths, top_border};
+ghost use Rattle.layout_tables.specs.Tables.{cell_ended, fence, is_fenced, row_ended, rows_of, table_ended, table_laid};
+ghost use Rattle.layout_tables.specs.Tables.{table_widths, top_border};
 ghost use Rattle.block_trait.specs.Renderers.{Marking};
 ghost use Rattle.table_widths.specs.Tables.{rows_left, table_seen};
 ghost use Rattle.text_pieces.specs.declared.fault.BlockError.TheVariants as errors;
@@ -21,13 +20,13 @@ ghost use Rattle.text_pieces.specs.declared.fault.BlockError.TheVariants as erro
 use crate::cells::open_among_cells;
 use crate::looking::open_look;
 use crate::values::push_some;
-use crate::waiting::{OpenCell, OpenTable, Waiting};
+use crate::waiting::{Continuation, OpenCell, OpenTable};
 use block_trait::Renderer;
-use layout_state::{Laying, SlotsLeft, TablePlace, TableRows};
+use layout_state::{LayoutState, SlotsLeft, TablePlace, TableRows};
+use layout_tables::{fence, is_fenced, push_name, rows_of, table_widths, top_border};
 use render_values::{Head, RenderInfo};
 use std::alloc::{AllocError, Global};
 use std::mem;
-use layout_tables::{fence, is_fenced, push_name, rows_of, table_widths, top_border};
 use table_widths::{Table, is_shown};
 use text_decorators::TextDecorator;
 use text_pieces::BlockError;
@@ -36,10 +35,10 @@ use text_pieces::BlockError;
 
 /// A table begins; one without a column is left out.
 pub(crate) fn hold_table<D: TextDecorator + Drop>(
-    laying: &mut Laying<D>,
+    laying: &mut LayoutState<D>,
     alloc: Global,
     table: Table,
-) -> Result<Option<Waiting<D>>, BlockError>
+) -> Result<Option<Continuation<D>>, BlockError>
     requires works { IsWorking D.Annotation.seen D.view.held laying.old }
     requires sized { AreSized table.columns.items }
     ensures opened { IfOk result (λ x. OpensWhere D.Annotation.seen D.view (λ m. table_laid m (table_seen table))
@@ -70,13 +69,13 @@ pub(crate) fn hold_table<D: TextDecorator + Drop>(
         }),
     );
     let waiting = Box::new(alloc, OpenTable { place, fenced })?;
-    Ok(Some(Waiting::TableEnds(waiting)))
+    Ok(Some(Continuation::TableEnds(waiting)))
 }
 
 /// A table ends: its fence below it where it has one, and the next value stands where the table does. The error is
 /// `TooNarrow` where the definition has no result, else `Memory`.
 pub fn end_table<D: TextDecorator + Drop>(
-    laying: &mut Laying<D>,
+    laying: &mut LayoutState<D>,
     table: Box<OpenTable<D>>,
 ) -> Result<(), BlockError>
     requires { IsWorking D.Annotation.seen D.view.held laying.old }
@@ -96,7 +95,7 @@ pub fn end_table<D: TextDecorator + Drop>(
 
 /// A group of rows begins.
 fn begin_group<D: TextDecorator + Drop>(
-    laying: &mut Laying<D>,
+    laying: &mut LayoutState<D>,
     head: &Head,
     rows: TableRows,
 ) -> Result<(), AllocError>
@@ -113,10 +112,10 @@ fn begin_group<D: TextDecorator + Drop>(
 
 // the same, until it ends
 fn open_group<D: TextDecorator + Drop>(
-    laying: &mut Laying<D>,
+    laying: &mut LayoutState<D>,
     head: &Head,
     rows: TableRows,
-    waiting: &mut Vec<Waiting<D>>,
+    waiting: &mut Vec<Continuation<D>>,
 ) -> Result<(), BlockError>
     requires { IsWorking D.Annotation.seen D.view.held laying.old }
     ensures opened { (nodes : List RenderNode) → OnOk result (IsOpened D.Annotation.seen D.view 2 nodes true
@@ -135,7 +134,7 @@ fn open_group<D: TextDecorator + Drop>(
 
 /// A row begins; whether it is shown.
 fn begin_row<D: TextDecorator + Drop>(
-    laying: &mut Laying<D>,
+    laying: &mut LayoutState<D>,
     alloc: Global,
     head: &Head,
     rows: TableRows,
@@ -167,11 +166,11 @@ fn begin_row<D: TextDecorator + Drop>(
 
 // the same, until it ends
 fn open_row<D: TextDecorator + Drop>(
-    laying: &mut Laying<D>,
+    laying: &mut LayoutState<D>,
     alloc: Global,
     head: &Head,
     rows: TableRows,
-    waiting: &mut Vec<Waiting<D>>,
+    waiting: &mut Vec<Continuation<D>>,
 ) -> Result<bool, BlockError>
     requires { IsWorking D.Annotation.seen D.view.held laying.old }
     ensures opened { (nodes : List RenderNode) → IfOk result (λ entered. IsOpened D.Annotation.seen D.view 2 nodes
@@ -190,7 +189,7 @@ fn open_row<D: TextDecorator + Drop>(
     }
     let look = open_look(laying, head.style)?;
     push_some(waiting, look)?;
-    waiting.push(Waiting::RowEnds)?;
+    waiting.push(Continuation::RowEnds)?;
     Ok(true)
 }
 
@@ -199,7 +198,7 @@ fn open_row<D: TextDecorator + Drop>(
 /// A cell ends: its renderer stands after those of its row, and the renderer outside goes on. The error is allocation
 /// failure alone.
 pub fn end_cell<D: TextDecorator + Drop>(
-    laying: &mut Laying<D>,
+    laying: &mut LayoutState<D>,
     alloc: Global,
     cell: Box<OpenCell<D>>,
 ) -> Result<(), BlockError>
@@ -233,11 +232,11 @@ pub fn end_cell<D: TextDecorator + Drop>(
 
 // A value begins among rows; whether what stands in it is laid out.
 fn open_among_rows<D: TextDecorator + Drop>(
-    laying: &mut Laying<D>,
+    laying: &mut LayoutState<D>,
     alloc: Global,
     head: &Head,
     rows: TableRows,
-    waiting: &mut Vec<Waiting<D>>,
+    waiting: &mut Vec<Continuation<D>>,
 ) -> Result<bool, BlockError>
     requires { IsWorking D.Annotation.seen D.view.held laying.old }
     ensures opened { (nodes : List RenderNode) → IfOk result (λ entered. IsOpened D.Annotation.seen D.view 2 nodes
@@ -265,10 +264,10 @@ fn open_among_rows<D: TextDecorator + Drop>(
 
 /// A value begins among rows or cells of a table; whether what stands in it is laid out. None outside of them.
 pub(crate) fn open_table_part<D: TextDecorator + Drop>(
-    laying: &mut Laying<D>,
+    laying: &mut LayoutState<D>,
     alloc: Global,
     head: &Head,
-    waiting: &mut Vec<Waiting<D>>,
+    waiting: &mut Vec<Continuation<D>>,
 ) -> Result<Option<bool>, BlockError>
     requires { IsWorking D.Annotation.seen D.view.held laying.old }
     ensures outside { IfOk result (λ r. r ≡ None → StandsOutside D.Annotation.seen D.view.held head.now laying.old

@@ -2,11 +2,10 @@
 ghost use Rattle.std.specs.Prelude.{◌≡◌, ◌++◌, ◌⊎◌, Err, IfErr, IfOk, IfSome, List, OnOk};
 ghost use Rattle.text_pieces.specs.declared.fault.BlockError.TheVariants as errors;
 ghost use Rattle.render_values.specs.declared.node.RenderNode.{RenderNode};
-ghost use Rattle.layout_values.specs.Seen.{maybe};
+ghost use Rattle.layout_values.specs.Seen.{IsOpened, NeverOpens, OpensWhere, WorksOutside, content_seen, maybe};
 ghost use Rattle.layout_values.specs.Lay.{holds, laid, laid_outside, shown};
-ghost use Rattle.layout_values.specs.Waiting.{info_at};
+ghost use Rattle.layout_values.specs.Continuation.{info_at};
 ghost use Rattle.layout_state.specs.Seen.{IsWorking};
-ghost use Rattle.layout_values.specs.Seen.{IsOpened, NeverOpens, OpensWhere, WorksOutside, content_seen};
 ghost use Rattle.table_widths.specs.Shares.{AreSized};
 
 use crate::content::Content;
@@ -14,8 +13,8 @@ use crate::lists::{hold_items, open_place};
 use crate::looking::open_look;
 use crate::parts::{hold_details, hold_heading, hold_quote};
 use crate::tables::{hold_table, open_table_part};
-use crate::waiting::Waiting;
-use layout_state::{ItemMark, Laying};
+use crate::waiting::Continuation;
+use layout_state::{ItemMark, LayoutState};
 use render_values::{Head, RenderInfo};
 use std::alloc::{AllocError, Global};
 use text_decorators::TextDecorator;
@@ -24,11 +23,11 @@ use text_pieces::BlockError;
 // Where what stands in a value is laid out; whether it is.
 #[tactic(auto, unfolding(crate::specs::Lay::holds))]
 fn hold<D: TextDecorator + Drop>(
-    laying: &mut Laying<D>,
+    laying: &mut LayoutState<D>,
     alloc: Global,
     info: &RenderInfo,
     content: Content,
-) -> Result<(Option<Waiting<D>>, bool), BlockError>
+) -> Result<(Option<Continuation<D>>, bool), BlockError>
     requires works { IsWorking D.Annotation.seen D.view.held laying.old }
     requires sized { AreSized content.table.columns.items }
     ensures opened { IfOk result (λ r. OpensWhere D.Annotation.seen D.view
@@ -63,12 +62,12 @@ fn hold<D: TextDecorator + Drop>(
 
 // a value of the node at a place, until it ends; whether what stands in it is laid out
 fn open_shown<D: TextDecorator + Drop>(
-    laying: &mut Laying<D>,
+    laying: &mut LayoutState<D>,
     alloc: Global,
     head: &Head,
     at: usize,
     content: Content,
-    waiting: &mut Vec<Waiting<D>>,
+    waiting: &mut Vec<Continuation<D>>,
 ) -> Result<bool, BlockError>
     requires works { IsWorking D.Annotation.seen D.view.held laying.old }
     requires sized { AreSized content.table.columns.items }
@@ -82,7 +81,7 @@ fn open_shown<D: TextDecorator + Drop>(
 {
     laying.lead(head)?;
     laying.begin(&head.info)?;
-    waiting.push(Waiting::ValueEnds(at))?;
+    waiting.push(Continuation::ValueEnds(at))?;
     let (part, entered) = hold(laying, alloc, &head.info, content)?;
     push_some(waiting, part)?;
     if !entered {
@@ -94,12 +93,12 @@ fn open_shown<D: TextDecorator + Drop>(
 
 // a value outside of tables
 fn open_outside<D: TextDecorator + Drop>(
-    laying: &mut Laying<D>,
+    laying: &mut LayoutState<D>,
     alloc: Global,
     head: &Head,
     at: usize,
     content: Content,
-    waiting: &mut Vec<Waiting<D>>,
+    waiting: &mut Vec<Continuation<D>>,
 ) -> Result<bool, BlockError>
     requires works { IsWorking D.Annotation.seen D.view.held laying.old }
     requires sized { AreSized content.table.columns.items }
@@ -119,15 +118,15 @@ fn open_outside<D: TextDecorator + Drop>(
     open_shown(laying, alloc, head, at, content, waiting)
 }
 
-/// The value of the node at a place begins, with what stands in it; what waits for its end is pushed. Tells whether
+/// The value of the node at a place begins, with what stands in it; what waits for its end is pushed. Emits whether
 /// what stands in it is laid out. The error is `TooNarrow` where the definition has no result, else `Memory`.
 pub fn open_value<D: TextDecorator + Drop>(
-    laying: &mut Laying<D>,
+    laying: &mut LayoutState<D>,
     alloc: Global,
     head: &Head,
     at: usize,
     content: Content,
-    waiting: &mut Vec<Waiting<D>>,
+    waiting: &mut Vec<Continuation<D>>,
 ) -> Result<bool, BlockError>
     requires works { IsWorking D.Annotation.seen D.view.held laying.old }
     requires sized { AreSized content.table.columns.items }
@@ -148,8 +147,8 @@ pub fn open_value<D: TextDecorator + Drop>(
 
 // what waits, if it does, waits from here on
 pub(crate) fn push_some<D: TextDecorator + Drop>(
-    waiting: &mut Vec<Waiting<D>>,
-    next: Option<Waiting<D>>,
+    waiting: &mut Vec<Continuation<D>>,
+    next: Option<Continuation<D>>,
 ) -> Result<(), AllocError>
     ensures { OnOk result (waiting.new.items ≡ waiting.old.items ++ maybe next) }
 {

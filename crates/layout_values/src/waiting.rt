@@ -6,7 +6,7 @@ use text_decorators::TextDecorator;
 /// What is still to be done of a page that is laid out. One of these waits for each element that is open, so what is
 /// large is in a box.
 #[derive(Drop)]
-pub enum Waiting<D: TextDecorator> {
+pub enum Continuation<D: TextDecorator> {
     /// The values of nodes are to be laid out.
     Rest { from: usize, to: usize },
     /// The value of a node ends.

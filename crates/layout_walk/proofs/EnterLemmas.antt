@@ -1,7 +1,6 @@
 -- What a value that begins leaves to be done.
-use Rattle.std.proofs.Common.{◌≡◌, Bool, true, false, if◌then◌else◌, ℕ, ◌+◌, ◌-◌, ◌*◌, ◌≤◌, List, [], ◌∷◌, ◌++◌}
-use Rattle.std.proofs.Common.{arith, nat_lt, refl}
-use Rattle.std.proofs.Common.{sym, ap, subst, ◌∙◌, append_assoc, length, map}
+use Rattle.std.proofs.Common.{◌≡◌, if◌then◌else◌, ◌+◌, ◌-◌, ◌*◌, ◌≤◌, [], ◌∷◌, ◌++◌, ◌∙◌, Bool, List, ap, append_assoc}
+use Rattle.std.proofs.Common.{arith, false, length, map, nat_lt, refl, subst, sym, true, ℕ}
 use Rattle.std.specs.Prelude.{All}
 use Rattle.std.proofs.lemmas.Bool.Decides.{nat_tests}
 use Rattle.std.proofs.lemmas.List.{map-append}
@@ -15,34 +14,33 @@ use Rattle.render_values.specs.declared.info.Head.{Head}
 use Rattle.render_values.specs.declared.node.RenderNode.{RenderNode}
 use Rattle.render_values.specs.Arena.{values_of}
 use Rattle.layout_values.specs.Lay.{Content, content_of, laid, lay}
-use Rattle.layout_state.specs.Laying.{Laying, Step}
+use Rattle.layout_state.specs.LayoutState.{LayoutState, Step}
 use Rattle.layout_values.specs.Seen.{AreAlike, IsReady, IsSound, WorksOutside, load, rest_of, rest_where, waiting_of}
-use Rattle.layout_values.specs.Seen.{weight}
-use Rattle.layout_values.specs.Seen.{where_entered}
-use Rattle.layout_values.specs.Waiting.{Waiting, segment, unwound}
-use Rattle.layout_values.specs.declared.waiting.Waiting.{Waiting as CodeWaiting}
-use Rattle.layout_values.specs.declared.waiting.Waiting.TheVariants.{Rest, ValueEnds, LookEnds, PartEnds, ItemEnds}
-use Rattle.layout_values.specs.declared.waiting.Waiting.TheVariants.{CellEnds, ListEnds, RowEnds, TableEnds}
+use Rattle.layout_values.specs.Seen.{weight, where_entered}
+use Rattle.layout_values.specs.Continuation.{Continuation, segment, unwound}
+use Rattle.layout_values.specs.declared.waiting.Continuation.{Continuation as CodeWaiting}
+use Rattle.layout_values.specs.declared.waiting.Continuation.TheVariants.{CellEnds, ItemEnds, ListEnds, LookEnds}
+use Rattle.layout_values.specs.declared.waiting.Continuation.TheVariants.{PartEnds, Rest, RowEnds, TableEnds, ValueEnds}
 use Rattle.layout_walk.proofs.SegmentLemmas.{none_sound, nothing_here}
 use Rattle.layout_values.proofs.ValueLemmas.{all_on}
 use Rattle.layout_walk.proofs.WalkLemmas.{enters}
 
-pub entered : {X H A : Type 0} (f : X → Waiting H A) (m : Marking H A) (w : Measure) (old one rests items new : List X)
-    (head : Head) (inner later vs next : Values) (c : Content) (is_entered : Bool) (before behind : Laying H A)
+pub entered : {X H A : Type 0} (f : X → Continuation H A) (m : Marking H A) (w : Measure) (old one rests items new : List X)
+    (head : Head) (inner later vs next : Values) (c : Content) (is_entered : Bool) (before trailing : LayoutState H A)
     → one ≡ old ++ rests → new ≡ one ++ items
-    → ((l : Laying H A) → unwound m w (map f rests) l ≡ lay m w later l) → vs ≡ value head inner later
+    → ((l : LayoutState H A) → unwound m w (map f rests) l ≡ lay m w later l) → vs ≡ value head inner later
     → AreAlike head.info c (content_of w head inner)
     → ((inside : Step H A) → laid m head c inside before
-    ≡ option_and_then (unwound m w (map f items)) (where_entered is_entered inside behind))
-    → where_entered is_entered (lay m w inner) behind ≡ lay m w next behind
-    → option_and_then (unwound m w (map f new)) (lay m w next behind)
+    ≡ option_and_then (unwound m w (map f items)) (where_entered is_entered inside trailing))
+    → where_entered is_entered (lay m w inner) trailing ≡ lay m w next trailing
+    → option_and_then (unwound m w (map f new)) (lay m w next trailing)
     ≡ option_and_then (unwound m w (map f old)) (lay m w vs before)
-entered {X} f m w old one rests items new head inner later vs next c is_entered before behind first second waits is
+entered {X} f m w old one rests items new head inner later vs next c is_entered before trailing first second waits is
     known opens goes =
-    ap (λ v. option_and_then (unwound m w v) (lay m w next behind))
+    ap (λ v. option_and_then (unwound m w v) (lay m w next trailing))
     (ap (map f) (second ∙ (ap (λ (v : List X). v ++ items) first ∙ append_assoc old rests items))
     ∙ (map-append f old (rests ++ items) ∙ ap (λ v. map f old ++ v) (map-append f rests items)))
-    ∙ enters m w (map f old) (map f rests) (map f items) head inner later vs c before (lay m w next behind) waits is
+    ∙ enters m w (map f old) (map f rests) (map f items) head inner later vs c before (lay m w next trailing) waits is
     known
     (opens (lay m w inner) ∙ ap (option_and_then (unwound m w (map f items))) goes)
 
@@ -50,7 +48,7 @@ no_rest : (from to : ℕ) → nat_lt from to ≡ false → to ≤ from
 no_rest from to is = grind (arith, nat_tests)
 
 waits_where : {D T H A : Type 0} (seen : T → A) (held : D → H) (nodes : List RenderNode) (m : Marking H A)
-    (w : Measure) (from to : ℕ) (is_some : Bool) (l : Laying H A) → nat_lt from to ≡ is_some
+    (w : Measure) (from to : ℕ) (is_some : Bool) (l : LayoutState H A) → nat_lt from to ≡ is_some
     → unwound m w (map (waiting_of seen held nodes) (rest_where is_some from to)) l
     ≡ lay m w (values_of (segment nodes from to)) l
 unfolding unwound
@@ -60,31 +58,31 @@ waits_where seen held nodes m w from to false l is =
 
 -- The values after one are laid out, also where there are none.
 pub rest_waits : {D T H A : Type 0} (seen : T → A) (held : D → H) (nodes : List RenderNode) (m : Marking H A)
-    (w : Measure) (from to : ℕ) (l : Laying H A)
+    (w : Measure) (from to : ℕ) (l : LayoutState H A)
     → unwound m w (map (waiting_of seen held nodes) (rest_of from to)) l
     ≡ lay m w (values_of (segment nodes from to)) l
 rest_waits seen held nodes m w from to l = waits_where seen held nodes m w from to (nat_lt from to) l refl
 
 -- what stands in a value is next where it was entered, and nothing of it where it was not
 pub goes_in : {H A : Type 0} (m : Marking H A) (w : Measure) (nodes : List RenderNode) (is_entered : Bool)
-    (from behind at : ℕ) (l : Laying H A) → at ≡ (if is_entered then from else behind)
-    → where_entered is_entered (lay m w (values_of (segment nodes from behind))) l
-    ≡ lay m w (values_of (segment nodes at behind)) l
-goes_in m w nodes true from behind at l is = ap (λ n. lay m w (values_of (segment nodes n behind)) l) (sym is)
-goes_in m w nodes false from behind at l is =
-    ap (λ v. lay m w v l) (sym (nothing_here nodes at behind (omega (arith, is))))
+    (from trailing at : ℕ) (l : LayoutState H A) → at ≡ (if is_entered then from else trailing)
+    → where_entered is_entered (lay m w (values_of (segment nodes from trailing))) l
+    ≡ lay m w (values_of (segment nodes at trailing)) l
+goes_in m w nodes true from trailing at l is = ap (λ n. lay m w (values_of (segment nodes n trailing)) l) (sym is)
+goes_in m w nodes false from trailing at l is =
+    ap (λ v. lay m w v l) (sym (nothing_here nodes at trailing (omega (arith, is))))
 
-pub sound_in : (nodes : List RenderNode) (sizes : List Extent) (w : Measure) (is_entered : Bool) (from behind at : ℕ)
-    → at ≡ (if is_entered then from else behind) → IsSound nodes sizes w from behind
-    → IsSound nodes sizes w at behind
-sound_in nodes sizes w true from behind at is sound = subst (λ n. IsSound nodes sizes w n behind) (sym is) sound
-sound_in nodes sizes w false from behind at is sound =
-    none_sound nodes sizes w at behind (omega (arith, is)) sound.within
+pub sound_in : (nodes : List RenderNode) (sizes : List Extent) (w : Measure) (is_entered : Bool) (from trailing at : ℕ)
+    → at ≡ (if is_entered then from else trailing) → IsSound nodes sizes w from trailing
+    → IsSound nodes sizes w at trailing
+sound_in nodes sizes w true from trailing at is sound = subst (λ n. IsSound nodes sizes w n trailing) (sym is) sound
+sound_in nodes sizes w false from trailing at is sound =
+    none_sound nodes sizes w at trailing (omega (arith, is)) sound.within
 
-pub short_in : (is_entered : Bool) (from behind at : ℕ) → at ≡ (if is_entered then from else behind)
-    → behind - at ≤ behind - from
-short_in true from behind at is = omega (arith, is)
-short_in false from behind at is = omega (arith, is)
+pub short_in : (is_entered : Bool) (from trailing at : ℕ) → at ≡ (if is_entered then from else trailing)
+    → trailing - at ≤ trailing - from
+short_in true from trailing at is = omega (arith, is)
+short_in false from trailing at is = omega (arith, is)
 
 -- what was found of nodes is known of those that they are
 pub known_in : (w : Measure) (head : Head) (c : Content) (found inside : List RenderNode)

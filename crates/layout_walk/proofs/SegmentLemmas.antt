@@ -1,6 +1,6 @@
 -- Nodes from a place up to another.
-use Rattle.std.proofs.Common.{◌≡◌, ℕ, zero, suc, ◌+◌, ◌-◌, ◌<◌, ◌≤◌, List, [], ◌∷◌, arith, refl, sym}
-use Rattle.std.proofs.Common.{ap, inl, subst, ◌∙◌, drop, take, get_or, length}
+use Rattle.std.proofs.Common.{◌≡◌, ◌+◌, ◌-◌, ◌<◌, ◌≤◌, [], ◌∷◌, ◌∙◌, List, ap, arith, drop, get_or, inl, length, refl}
+use Rattle.std.proofs.Common.{subst, suc, sym, take, zero, ℕ}
 use Rattle.std.proofs.lemmas.List.{length-drop, length-take}
 use Rattle.render_sizes.specs.Asked.{AreMeasured, asked_of}
 use Rattle.render_sizes.specs.Extents.{Measure, extent_of, extents}
@@ -8,12 +8,12 @@ use Rattle.render_sizes.specs.declared.asked.Asked.TheVariants.{Inside, Itself}
 use Rattle.render_sizes.specs.declared.extent.Extent.{Extent}
 use Rattle.render_sizes.proofs.AskedLemmas.{Found, found, length_measured}
 use Rattle.render_sizes.proofs.ExtentLemmas.{inner_flat, inner_values}
-use Rattle.render_values.specs.Arena.{IsFlat, behind, first, values_of}
+use Rattle.render_values.specs.Arena.{IsFlat, trailing, first, values_of}
 use Rattle.render_values.specs.Values.{none, value}
 use Rattle.render_values.specs.declared.node.RenderNode.{RenderNode}
 use Rattle.render_values.proofs.ArenaLemmas.{below_fits, length_flat, next_flat, next_values}
 use Rattle.layout_values.specs.Seen.{IsSound}
-use Rattle.layout_values.specs.Waiting.{info_at, segment}
+use Rattle.layout_values.specs.Continuation.{info_at, segment}
 
 drop_none : {X : Type 0} (n : ℕ) → ◌≡◌ {A = List X} (drop n []) []
 drop_none zero = refl
@@ -164,9 +164,9 @@ values_here nodes sizes w at end d before sound =
     let room = fits nodes sizes w at end d before sound in
     let inner : first x.below (values_of xs) ≡ values_of (segment nodes (at + 1) (at + 1 + x.below))
     = sym (inner_values x xs s.flat) ∙ ap values_of (segment_front nodes (at + 1) x.below end room) in
-    let later : behind x.below (values_of xs) ≡ values_of (segment nodes (at + 1 + x.below) end)
+    let later : trailing x.below (values_of xs) ≡ values_of (segment nodes (at + 1 + x.below) end)
     = sym (next_values x xs s.flat) ∙ ap values_of (segment_back nodes (at + 1) x.below end room) in
-    ap values_of s.nodes_are ∙ (ap (λ v. value x.head v (behind x.below (values_of xs))) inner
+    ap values_of s.nodes_are ∙ (ap (λ v. value x.head v (trailing x.below (values_of xs))) inner
     ∙ ap (value x.head (values_of (segment nodes (at + 1) (at + 1 + x.below)))) later)
 
 pub size_here : (nodes : List RenderNode) (sizes : List Extent) (w : Measure) (at end : ℕ) (d : RenderNode)
@@ -187,9 +187,9 @@ sizes_in sizes at below end room =
     ap (take below) (segment_back sizes at 1 end (omega (arith, room)))
     ∙ segment_front sizes (at + 1) below end room
 
-sizes_behind : (sizes : List Extent) (at below end : ℕ) → at + 1 + below ≤ end
+sizes_after : (sizes : List Extent) (at below end : ℕ) → at + 1 + below ≤ end
     → drop below (drop 1 (segment sizes at end)) ≡ segment sizes (at + 1 + below) end
-sizes_behind sizes at below end room =
+sizes_after sizes at below end room =
     ap (drop below) (segment_back sizes at 1 end (omega (arith, room)))
     ∙ segment_back sizes (at + 1) below end room
 
@@ -236,7 +236,7 @@ rest_sound nodes sizes w at end d before sound =
     record {
       within = sound.within;
       flat = subst IsFlat cut (next_flat x xs s.flat);
-      sized = measured_by w _ _ _ _ cut (sizes_behind sizes at x.below end room) s.finds.rest;
+      sized = measured_by w _ _ _ _ cut (sizes_after sizes at x.below end room) s.finds.rest;
     }
 
 -- all of it, of the node that was found there

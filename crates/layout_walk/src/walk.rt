@@ -1,39 +1,35 @@
 //! A render tree, laid out value by value.
-ghost use Rattle.std.specs.Prelude.{◌≡◌, ◌⊎◌, ◌+◌, ◌*◌, ◌-◌, ◌<◌, ◌≤◌, ◌++◌, All, Err, IfErr, IfOk, List, None, OnOk};
-ghost use Rattle.std.specs.Prelude.{chars, false, length, string_bytes, if◌then◌else◌};
-ghost use Rattle.block_renderer.specs.Seen.{has_failed};
-ghost use Rattle.layout_values.specs.Seen.{weight};
-ghost use Rattle.layout_values.specs.Waiting.{segment};
+ghost use Rattle.std.specs.Prelude.{◌≡◌, ◌⊎◌, ◌+◌, ◌*◌, ◌-◌, ◌<◌, ◌≤◌, ◌++◌, if◌then◌else◌, All, Err, IfErr, IfOk};
+ghost use Rattle.std.specs.Prelude.{List, None, OnOk, chars, false, length, string_bytes};
+ghost use Rattle.block_renderer.specs.Seen.{IsTagging, has_failed, marking, sub_of};
+ghost use Rattle.layout_values.specs.Seen.{AreAlike, GoesOn, IsReady, IsSound, NeverGoes, content_seen, load, rest_of};
+ghost use Rattle.layout_values.specs.Seen.{waiting_of, weight};
+ghost use Rattle.layout_values.specs.Continuation.{info_at, segment, undone};
 ghost use Rattle.text_pieces.specs.declared.fault.BlockError.TheVariants as errors;
 ghost use Rattle.render_sizes.specs.Asked.{AreMeasured, asked_of};
 ghost use Rattle.render_sizes.specs.declared.asked.Asked.TheVariants as asks;
 ghost use Rattle.render_sizes.specs.Extents.{Measure, extent_of, extents};
 ghost use Rattle.render_sizes.specs.declared.extent.Extent.{Extent as SeenExtent};
 ghost use Rattle.render_values.specs.Arena.{IsFlat, values_of};
-ghost use Rattle.layout_values.specs.Lay.{laid_parts, lay};
+ghost use Rattle.layout_values.specs.Lay.{content_of, laid_parts, lay};
 ghost use Rattle.text_block_renderer.specs.Parts.{depth_of};
 ghost use Rattle.text_block_renderer.specs.SeenParts.{PartsCome, PartsFail, current_has_failed, page_has_failed};
 ghost use Rattle.text_block_renderer.specs.SeenParts.{parts_of};
-ghost use Rattle.block_renderer.specs.Seen.{IsTagging, marking, sub_of};
 ghost use Rattle.layout_state.specs.Begins.{ends};
-ghost use Rattle.layout_state.specs.Laying.{goes_on, in_turn, part_ended};
+ghost use Rattle.layout_state.specs.LayoutState.{goes_on, in_turn, part_ended};
 ghost use Rattle.layout_state.specs.Seen.{Comes, Fails, IsWorking, laying_of};
-ghost use Rattle.layout_values.specs.Seen.{GoesOn, IsReady, IsSound, NeverGoes};
-ghost use Rattle.layout_values.specs.Seen.{AreAlike, content_seen, load, rest_of, waiting_of};
-ghost use Rattle.layout_values.specs.Waiting.{info_at, undone};
 ghost use Rattle.table_widths.specs.Shares.{AreSized};
-ghost use Rattle.layout_values.specs.Lay.{content_of};
 
-use layout_state::{Around, Laying, TablePlace};
-use text_block_renderer::TextRenderer;
+use layout_state::{Around, LayoutState, TablePlace};
+use layout_tables::end_row;
+use layout_values::{Content, Continuation, OpenItem, OpenPart, end_cell, end_table, open_value};
 use render_sizes::{Extent, number, table_among};
 use render_values::{Head, RenderInfo, RenderNode, RenderTree};
 use std::alloc::{AllocError, Global};
 use table_widths::Table;
+use text_block_renderer::TextRenderer;
 use text_decorators::TextDecorator;
 use text_pieces::BlockError;
-use layout_values::{Content, OpenItem, OpenPart, Waiting, end_cell, end_table, open_value};
-use layout_tables::end_row;
 
 // The next node, and the end of the values that are laid out one after another.
 #[derive(Clone, Copy)]
@@ -96,7 +92,7 @@ fn content_of(
 // the value of the node at a place ends
 #[tactic(auto, unfolding(layout_state::specs::Begins::ends))]
 fn end_at<D: TextDecorator + Drop>(
-    laying: &mut Laying<D>,
+    laying: &mut LayoutState<D>,
     nodes: &[RenderNode],
     at: usize,
 ) -> Result<(), BlockError>
@@ -116,7 +112,7 @@ fn end_at<D: TextDecorator + Drop>(
 
 // a part ends
 fn end_part<D: TextDecorator + Drop>(
-    laying: &mut Laying<D>,
+    laying: &mut LayoutState<D>,
     part: Box<OpenPart<D>>,
 ) -> Result<(), BlockError>
     requires works { IsWorking D.Annotation.seen D.view.held laying.old × (has_failed part.value.outer ≡ false) }
@@ -139,7 +135,7 @@ fn end_part<D: TextDecorator + Drop>(
 
 // an item's part ends, and then the list around says what it left
 fn end_item<D: TextDecorator + Drop>(
-    laying: &mut Laying<D>,
+    laying: &mut LayoutState<D>,
     item: Box<OpenItem<D>>,
 ) -> Result<(), BlockError>
     requires works { IsWorking D.Annotation.seen D.view.held laying.old × (has_failed item.value.outer ≡ false) }
@@ -167,11 +163,11 @@ fn end_item<D: TextDecorator + Drop>(
 
 // what waited last is done, or its nodes are the next
 fn leave<D: TextDecorator + Drop>(
-    laying: &mut Laying<D>,
+    laying: &mut LayoutState<D>,
     alloc: Global,
     nodes: &[RenderNode],
     place: Place,
-    next: Waiting<D>,
+    next: Continuation<D>,
 ) -> Result<Place, BlockError>
     requires works { IsWorking D.Annotation.seen D.view.held laying.old }
     requires ready { (sizes : List SeenExtent) × ((w : Measure) × IsReady nodes.now sizes w next) }
@@ -190,36 +186,36 @@ fn leave<D: TextDecorator + Drop>(
     ensures kinds { IfErr result (λ e. (e ≡ errors.TooNarrow) ⊎ (e ≡ errors.Memory)) }
 {
     match next {
-        Waiting::Rest { from, to } => Ok(Place { at: from, end: to }),
-        Waiting::ValueEnds(at) => {
+        Continuation::Rest { from, to } => Ok(Place { at: from, end: to }),
+        Continuation::ValueEnds(at) => {
             end_at(laying, nodes, at)?;
             Ok(place)
         }
-        Waiting::LookEnds(style) => {
+        Continuation::LookEnds(style) => {
             laying.end_look(style);
             Ok(place)
         }
-        Waiting::PartEnds(part) => {
+        Continuation::PartEnds(part) => {
             end_part(laying, part)?;
             Ok(place)
         }
-        Waiting::ItemEnds(item) => {
+        Continuation::ItemEnds(item) => {
             end_item(laying, item)?;
             Ok(place)
         }
-        Waiting::ListEnds => {
+        Continuation::ListEnds => {
             laying.around = Around::Flow;
             Ok(place)
         }
-        Waiting::TableEnds(table) => {
+        Continuation::TableEnds(table) => {
             end_table(laying, table)?;
             Ok(place)
         }
-        Waiting::RowEnds => {
+        Continuation::RowEnds => {
             end_row(laying, alloc)?;
             Ok(place)
         }
-        Waiting::CellEnds(cell) => {
+        Continuation::CellEnds(cell) => {
             end_cell(laying, alloc, cell)?;
             Ok(place)
         }
@@ -227,25 +223,25 @@ fn leave<D: TextDecorator + Drop>(
 }
 
 // the next node where a value was entered, whose nodes those are: the first of them, or none
-fn entrance(entered: bool, first: usize, behind: usize) -> usize
-    ensures { result ≡ if entered then first else behind }
+fn entrance(entered: bool, first: usize, trailing: usize) -> usize
+    ensures { result ≡ if entered then first else trailing }
 {
     if entered {
         return first;
     }
-    behind
+    trailing
 }
 
 // values of nodes wait from here on, unless there are none
 fn push_nodes<D: TextDecorator + Drop>(
-    waiting: &mut Vec<Waiting<D>>,
+    waiting: &mut Vec<Continuation<D>>,
     from: usize,
     to: usize,
 ) -> Result<(), AllocError>
     ensures { OnOk result (waiting.new.items ≡ waiting.old.items ++ rest_of from to) }
 {
     if from < to {
-        waiting.push(Waiting::Rest { from, to })?;
+        waiting.push(Continuation::Rest { from, to })?;
         return Ok(());
     }
     Ok(())
@@ -253,12 +249,12 @@ fn push_nodes<D: TextDecorator + Drop>(
 
 // the next value begins
 fn enter<D: TextDecorator + Drop>(
-    laying: &mut Laying<D>,
+    laying: &mut LayoutState<D>,
     alloc: Global,
     nodes: &[RenderNode],
     sizes: &[Extent],
     place: Place,
-    waiting: &mut Vec<Waiting<D>>,
+    waiting: &mut Vec<Continuation<D>>,
 ) -> Result<Place, BlockError>
     ghost w: { Measure }
     requires works { IsWorking D.Annotation.seen D.view.held laying.old }
@@ -279,21 +275,21 @@ fn enter<D: TextDecorator + Drop>(
     let node = &nodes[place.at];
     let extent = &sizes[place.at];
     let first = place.at + 1;
-    let behind = first + node.below;
-    push_nodes(waiting, behind, place.end)?;
-    let inside = nodes_between(nodes, first, behind);
-    let inner = extents_between(sizes, first, behind);
+    let trailing = first + node.below;
+    push_nodes(waiting, trailing, place.end)?;
+    let inside = nodes_between(nodes, first, trailing);
+    let inner = extents_between(sizes, first, trailing);
     let content = content_of(alloc, &node.head, extent.least, inside, inner)?;
     let entered = open_value(laying, alloc, &node.head, place.at, content, waiting)?;
     Ok(Place {
-        at: entrance(entered, first, behind),
-        end: behind,
+        at: entrance(entered, first, trailing),
+        end: trailing,
     })
 }
 
 // lays out the values of nodes with the columns that they take, or that are asked for
 fn walk<D: TextDecorator + Drop>(
-    laying: &mut Laying<D>,
+    laying: &mut LayoutState<D>,
     alloc: Global,
     nodes: &[RenderNode],
     sizes: &[Extent],
@@ -309,7 +305,7 @@ fn walk<D: TextDecorator + Drop>(
         (λ m. lay m w (values_of nodes.now)) laying.old }
     ensures kinds { IfErr result (λ e. (e ≡ errors.TooNarrow) ⊎ (e ≡ errors.Memory)) }
 {
-    let mut waiting: Vec<Waiting<D>> = Vec::new(alloc);
+    let mut waiting: Vec<Continuation<D>> = Vec::new(alloc);
     let mut place = Place {
         at: 0,
         end: nodes.len(),
@@ -342,21 +338,21 @@ pub fn lay_tree<D: TextDecorator + Drop>(
     requires works { (page_has_failed text ≡ false) × (current_has_failed text ≡ false) }
     requires whole { depth_of (parts_of D.Annotation.seen D.view.held text) ≡ 1 }
     requires sized { AreMeasured w tree.now sizes.now }
-    ensures laid { IfOk result (λ behind. PartsCome D.Annotation.seen D.view (λ m p. laid_parts m w tree.now p) text
-        behind) }
-    ensures works { IfOk result (λ behind. (page_has_failed behind ≡ false) × (current_has_failed behind ≡ false)) }
-    ensures whole { IfOk result (λ behind. depth_of (parts_of D.Annotation.seen D.view.held behind) ≡ 1) }
+    ensures laid { IfOk result (λ trailing. PartsCome D.Annotation.seen D.view (λ m p. laid_parts m w tree.now p) text
+        trailing) }
+    ensures works { IfOk result (λ trailing. (page_has_failed trailing ≡ false) × (current_has_failed trailing ≡ false)) }
+    ensures whole { IfOk result (λ trailing. depth_of (parts_of D.Annotation.seen D.view.held trailing) ≡ 1) }
     ensures narrow { result ≡ Err errors.TooNarrow → PartsFail D.Annotation.seen D.view
         (λ m p. laid_parts m w tree.now p) text }
     ensures kinds { IfErr result (λ e. (e ≡ errors.TooNarrow) ⊎ (e ≡ errors.Memory)) }
 {
-    let mut laying = Laying {
+    let mut laying = LayoutState {
         text,
         around: Around::Flow,
         table: TablePlace::Outside { in_cell: false },
     };
     walk(&mut laying, alloc, tree.nodes(), sizes)?;
-    let Laying {
+    let LayoutState {
         text,
         around: _,
         table: _,

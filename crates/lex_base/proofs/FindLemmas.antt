@@ -1,8 +1,8 @@
 -- A text is looked up by its place.
-use Rattle.std.proofs.Common.{◌≡◌, ℕ, ◌<◌, ◌≤◌, true, false, true≢false, List, [], ◌∷◌, map, slice_index_or}
-use Rattle.std.proofs.Common.{IsUtf8, if◌then◌else◌, slice_get}
+use Rattle.std.proofs.Common.{◌≡◌, ◌<◌, ◌≤◌, [], ◌∷◌, if◌then◌else◌, ◌+◌, ◌*◌, ◌%◌, ◌-◌, ◌∙◌, IsUtf8, List, None}
+use Rattle.std.proofs.Common.{Option, Some, ap, bytes_eq, chars, false, length, map, refl, slice_get, slice_index_or}
+use Rattle.std.proofs.Common.{sym, true, true≢false, ℕ}
 use Rattle.std.proofs.lemmas.Option.{slice_get-get_or, slice_get_past}
-use Rattle.std.proofs.Common.{bytes_eq, chars, length, ◌+◌, ◌*◌, ◌%◌, ◌-◌, Option, None, Some, refl, sym, ap, ◌∙◌}
 use Rattle.std.specs.List.{list_all}
 use Rattle.std.proofs.lemmas.Bool.{and_parts}
 use Rattle.std.proofs.lemmas.Slice.Eq.{bytes_eq-Decides}

@@ -1,8 +1,8 @@
 -- What a JSON text gives, member by member and number by number.
-use Rattle.std.proofs.Common.{◌≡◌, ◌≢◌, ℕ, suc, ◌+◌, ◌<◌, ◌≤◌, Bool, true, false, cond, eqb, ltb, leb, List, [], ◌∷◌}
-use Rattle.std.proofs.Common.{◌++◌, length, reverse, drop, get_or, Option, Some, None, option_map, option_and_then}
-use Rattle.std.proofs.Common.{Result, Ok, Err, chars, String, string_bytes, IsUtf8, refl, sym, ap, ◌∙◌, append_assoc}
-use Rattle.std.proofs.Common.{append-nil, encode_utf8, encode_utf8_all, ◌&&◌, ◌||◌, ◌⊎◌, arith}
+use Rattle.std.proofs.Common.{◌≡◌, ◌≢◌, ◌+◌, ◌<◌, ◌≤◌, [], ◌∷◌, ◌++◌, ◌∙◌, ◌&&◌, ◌||◌, ◌⊎◌, Bool, Err, IsUtf8, List}
+use Rattle.std.proofs.Common.{None, Ok, Option, Result, Some, String, ap, append-nil, append_assoc, arith, chars, cond}
+use Rattle.std.proofs.Common.{drop, encode_utf8, encode_utf8_all, eqb, false, get_or, leb, length, ltb, option_and_then}
+use Rattle.std.proofs.Common.{option_map, refl, reverse, string_bytes, suc, sym, true, ℕ}
 use Rattle.std.specs.Char.{IsScalar}
 use Rattle.std.proofs.lemmas.Bool.{eqb-true, leb-true, le-leb, lt-ltb, and_parts, and_from}
 use Rattle.std.proofs.lemmas.Option.{same_Some}
@@ -20,12 +20,10 @@ use Rattle.std.specs.declared.alloc.Global.{Global}
 use Rattle.serde_json.specs.View.{view, items_view, members_view}
 use Rattle.serde_json.specs.declared.value.Value.{Value}
 use Rattle.lex_base.specs.declared.table_error.TableError.{TableError}
-use Rattle.lex_base.specs.References.{Reference, References, references, is_name, is_between, is_shown}
-use Rattle.lex_base.specs.References.{result_then}
-use Rattle.lex_base.specs.Json.{name_in, value_in, value_if, whole_numbers, found_or, references_in}
-use Rattle.lex_base.specs.Json.{table_of_json}
-use Rattle.lex_base.specs.declared.table_error.TableError.TheVariants.{NotJson, NotAnObject, BadName}
-use Rattle.lex_base.specs.declared.table_error.TableError.TheVariants.{BadCodePoints, Memory}
+use Rattle.lex_base.specs.References.{Reference, References, is_between, is_name, is_shown, references, result_then}
+use Rattle.lex_base.specs.Json.{found_or, name_in, references_in, table_of_json, value_if, value_in, whole_numbers}
+use Rattle.lex_base.specs.declared.table_error.TableError.TheVariants.{BadCodePoints, BadName, Memory, NotAnObject}
+use Rattle.lex_base.specs.declared.table_error.TableError.TheVariants.{NotJson}
 use Rattle.lex_base.specs.Shown.{shown_if}
 
 -- ---- keys
@@ -45,9 +43,9 @@ pub no_name : (bs : List ℕ) → IsUtf8 bs → ((rest : List ℕ) → bs ≢ en
 no_name bs text other = sym (no_name_among (chars bs) bs (encodes-chars bs text) other)
 
 -- a key that does
-pub name_behind : (bs rest : List ℕ) (b : Bool) → IsUtf8 bs → bs ≡ encode_utf8 38 ++ rest → b ≡ is_name (chars rest) →
+pub name_after : (bs rest : List ℕ) (b : Bool) → IsUtf8 bs → bs ≡ encode_utf8 38 ++ rest → b ≡ is_name (chars rest) →
     cond b (Some (chars rest)) None ≡ name_in (chars bs)
-name_behind bs rest b text e is =
+name_after bs rest b text e is =
     ap (λ t. cond t (Some (chars rest)) None) is ∙ sym (ap name_in (chars_past_char bs rest 38 text e))
 
 -- ---- numbers
@@ -290,17 +288,17 @@ next_member t s u k v key whole e h w =
     ap (λ ms. filled t (references_in (members_view ms))) (sym e) ∙ w
 
 -- the fault of a member is the fault of the text
-pub told_name : (t : References) (key : List ℕ) (d : Data) (ms : Members) (whole : Result References TableError)
+pub emitted_name : (t : References) (key : List ℕ) (d : Data) (ms : Members) (whole : Result References TableError)
     (e y : TableError) → filled t (references_in (member key d ms)) ≡ whole
     → (e ≡ Memory) ⊎ ((name_in (chars key) ≡ None) × (e ≡ BadName (chars key))) → y ≡ e → (y ≡ Memory) ⊎ (whole ≡ Err y)
-told_name t key d ms whole e y w (inl m) h = inl (h ∙ m)
-told_name t key d ms whole e y w (inr fault) h =
+emitted_name t key d ms whole e y w (inl m) h = inl (h ∙ m)
+emitted_name t key d ms whole e y w (inr fault) h =
     inr (sym w ∙ filled-bad_name t key d ms fault.0 ∙ ap Err (sym (h ∙ fault.1)))
 
-pub told_value : (t : References) (key name : List ℕ) (d : Data) (ms : Members) (whole : Result References TableError)
+pub emitted_value : (t : References) (key name : List ℕ) (d : Data) (ms : Members) (whole : Result References TableError)
     (e y : TableError) → filled t (references_in (member key d ms)) ≡ whole
     → name_in (chars key) ≡ Some name → (e ≡ Memory) ⊎ ((value_in d ≡ None) × (e ≡ BadCodePoints (chars key))) → y ≡ e →
     (y ≡ Memory) ⊎ (whole ≡ Err y)
-told_value t key name d ms whole e y w n (inl m) h = inl (h ∙ m)
-told_value t key name d ms whole e y w n (inr fault) h =
+emitted_value t key name d ms whole e y w n (inl m) h = inl (h ∙ m)
+emitted_value t key name d ms whole e y w n (inr fault) h =
     inr (sym w ∙ filled-bad_value t key name d ms n fault.0 ∙ ap Err (sym (h ∙ fault.1)))

@@ -1,6 +1,6 @@
 -- What holds of each known name is seen in a table of all.
-use Rattle.std.proofs.Common.{◌≡◌, ℕ, Bool, true, List, [], ◌∷◌, Some, map, chars, slice_index_or, zero, suc}
-use Rattle.std.proofs.Common.{refl, sym, ap, ◌∙◌}
+use Rattle.std.proofs.Common.{◌≡◌, [], ◌∷◌, ◌∙◌, Bool, List, Some, ap, chars, map, refl, slice_index_or, suc, sym, true}
+use Rattle.std.proofs.Common.{zero, ℕ}
 use Rattle.std.specs.Borrow.{Bor}
 use Rattle.std.proofs.lemmas.Str.{chars-IsAscii}
 use denote.Enum.Declared.{tag_of}

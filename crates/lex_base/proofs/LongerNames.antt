@@ -1,7 +1,7 @@
 -- What the place after a text among the stored references says of the longer names that begin with it.
-use Rattle.std.proofs.Common.{◌≡◌, ◌≢◌, ◌↔◌, ℕ, ◌+◌, ◌<◌, ◌≤◌, Bool, true, false, List, ◌∷◌, ◌++◌, length, get_or, None}
-use Rattle.std.proofs.Common.{is_some, IsTrue, Result, Ok, Err, MatchBool, IsUtf8, chars, string_bytes, refl, sym, ap}
-use Rattle.std.proofs.Common.{subst, ◌∙◌, arith}
+use Rattle.std.proofs.Common.{◌≡◌, ◌≢◌, ◌↔◌, ◌+◌, ◌<◌, ◌≤◌, ◌∷◌, ◌++◌, ◌∙◌, Bool, Err, IsTrue, IsUtf8, List, MatchBool}
+use Rattle.std.proofs.Common.{None, Ok, Result, ap, arith, chars, false, get_or, is_some, length, refl, string_bytes}
+use Rattle.std.proofs.Common.{subst, sym, true, ℕ}
 use Rattle.std.proofs.lemmas.Str.{IsUtf8-string_bytes}
 use Rattle.std.specs.declared.cmp.Ordering.TheVariants.{Greater}
 use Rattle.std.specs.Str.Pattern.{HasPrefixMatch, FindsTextPrefix}
@@ -11,35 +11,35 @@ use Rattle.lex_base.specs.declared.table.Reference as stored
 use Rattle.lex_base.specs.References.{References}
 use Rattle.lex_base.specs.Lookup.{HasLongerName}
 use Rattle.lex_base.specs.Table.{reference_of, table_of, AreInOrder}
-use Rattle.lex_base.proofs.SortedEntries.{placed_behind, place_behind}
+use Rattle.lex_base.proofs.SortedEntries.{placed_after, place_after}
 use Rattle.lex_base.proofs.TableBeginnings.{begins_with, got, is_name_of}
 use Rattle.lex_base.proofs.TableSearch.{Searched}
 use Rattle.lex_base.proofs.TextOrder.{order, longer_than, place_longer}
 
-pub behind_found_name : (r : Result ℕ ℕ) (behind at : ℕ) → behind ≡ at + 1 → r ≡ Ok at →
-    behind ≡ place_behind nat_list_cmp_total reference_of r
-behind_found_name r behind at e is = e ∙ ap (place_behind nat_list_cmp_total reference_of) (sym is)
+pub after_found_name : (r : Result ℕ ℕ) (trailing at : ℕ) → trailing ≡ at + 1 → r ≡ Ok at →
+    trailing ≡ place_after nat_list_cmp_total reference_of r
+after_found_name r trailing at e is = e ∙ ap (place_after nat_list_cmp_total reference_of) (sym is)
 
-pub behind_missed_name : (r : Result ℕ ℕ) (behind at : ℕ) → behind ≡ at → r ≡ Err at →
-    behind ≡ place_behind nat_list_cmp_total reference_of r
-behind_missed_name r behind at e is = e ∙ ap (place_behind nat_list_cmp_total reference_of) (sym is)
+pub after_missed_name : (r : Result ℕ ℕ) (trailing at : ℕ) → trailing ≡ at → r ≡ Err at →
+    trailing ≡ place_after nat_list_cmp_total reference_of r
+after_missed_name r trailing at e is = e ∙ ap (place_after nat_list_cmp_total reference_of) (sym is)
 
 module _ (items : List stored.Reference) (table : References) (q : List ℕ) (is : table_of items ≡ table)
     (ordered : AreInOrder items) (r : Result ℕ ℕ) (searched : Searched q items r) where
-  longer_at : HasLongerName table q → (place_behind nat_list_cmp_total reference_of r < length items)
+  longer_at : HasLongerName table q → (place_after nat_list_cmp_total reference_of r < length items)
       × ((d : stored.Reference) →
-      (rest : List ℕ) × (chars (string_bytes (get_or items (place_behind nat_list_cmp_total reference_of r) d).name)
+      (rest : List ℕ) × (chars (string_bytes (get_or items (place_after nat_list_cmp_total reference_of r) d).name)
       ≡ q ++ rest))
   longer_at longer =
-      let place = placed_behind nat_list_cmp_total reference_of items q r ordered searched.0 searched.1 in
+      let place = placed_after nat_list_cmp_total reference_of items q r ordered searched.0 searched.1 in
       let found = sym (ap is_some (got items items table q refl is ordered (q ++ longer.0 ∷ longer.1))) ∙ longer.2 in
       place_longer reference_of items q longer.0 longer.1
-      (place_behind nat_list_cmp_total reference_of r) ordered place found
+      (place_after nat_list_cmp_total reference_of r) ordered place found
 
-  above_at : (d : stored.Reference) → place_behind nat_list_cmp_total reference_of r < length items →
-      order (chars (string_bytes (get_or items (place_behind nat_list_cmp_total reference_of r) d).name)) q ≡ Greater
+  above_at : (d : stored.Reference) → place_after nat_list_cmp_total reference_of r < length items →
+      order (chars (string_bytes (get_or items (place_after nat_list_cmp_total reference_of r) d).name)) q ≡ Greater
   above_at d lt =
-      (placed_behind nat_list_cmp_total reference_of items q r ordered searched.0 searched.1).behind _ d
+      (placed_after nat_list_cmp_total reference_of items q r ordered searched.0 searched.1).trailing _ d
       (omega arith) lt
 
 -- what `starts_with` says of the stored name after the place
@@ -61,7 +61,7 @@ longer_of false q name table h there above begins =
 
 module _ (l items : List stored.Reference) (table : References) (text : List ℕ) (r : Result ℕ ℕ) (i : ℕ)
     (same : l ≡ items) (is : table_of items ≡ table) (ordered : AreInOrder items) (at : i
-    ≡ place_behind nat_list_cmp_total reference_of r) (h : Searched (chars text) l r) where
+    ≡ place_after nat_list_cmp_total reference_of r) (h : Searched (chars text) l r) where
   pub some_longer : (name : List ℕ) (d : stored.Reference) (b : Bool) → d ≡ get_or l i d → i < length l →
       name ≡ string_bytes d.name → IsUtf8 text
       → MatchBool b (HasPrefixMatch (FindsTextPrefix text) name) (FindsTextPrefix text name None) →
@@ -69,12 +69,12 @@ module _ (l items : List stored.Reference) (table : References) (text : List ℕ
   some_longer name d b here lt e t cases =
       let searched = subst (λ x. Searched (chars text) x r) same h in
       let u : IsUtf8 name = subst IsUtf8 (sym e) (IsUtf8-string_bytes d.name) in
-      let here' : d ≡ get_or items (place_behind nat_list_cmp_total reference_of r) d =
+      let here' : d ≡ get_or items (place_after nat_list_cmp_total reference_of r) d =
       here ∙ ap (λ x. get_or x i d) same ∙ ap (λ k. get_or items k d) at in
-      let lt' : place_behind nat_list_cmp_total reference_of r < length items =
+      let lt' : place_after nat_list_cmp_total reference_of r < length items =
       subst (λ k. k < length items) at (subst (λ x. i < length x) same lt) in
       let stands : chars name
-      ≡ chars (string_bytes (get_or items (place_behind nat_list_cmp_total reference_of r) d).name) =
+      ≡ chars (string_bytes (get_or items (place_after nat_list_cmp_total reference_of r) d).name) =
       ap chars e ∙ ap (λ s. chars (string_bytes s.name)) here' in
       longer_of b (chars text) (chars name) table (begins_with text name b t u cases)
       (subst (λ n. IsTrue (finite.contains_key table n)) (sym stands)
@@ -89,7 +89,7 @@ module _ (l items : List stored.Reference) (table : References) (text : List ℕ
     λ has.
         let lt = (longer_at items table (chars text) is ordered r (subst (λ x. Searched (chars text) x r) same h) has).0
         in
-        let le' : length items ≤ place_behind nat_list_cmp_total reference_of r =
+        let le' : length items ≤ place_after nat_list_cmp_total reference_of r =
         subst (λ k. length items ≤ k) at (subst (λ x. length x ≤ i) same le) in
         absurd (omega arith),
   )

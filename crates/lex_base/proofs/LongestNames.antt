@@ -1,7 +1,7 @@
 -- The longest name that a text begins with, from the longest that its front begins with.
-use Rattle.std.proofs.Common.{◌≡◌, ◌⊎◌, ℕ, List, [], ◌∷◌, ◌++◌, length, Option, None, Some, MatchOption, is_some}
-use Rattle.std.proofs.Common.{IsTrue, chars, inl, inr, refl, sym, ap, subst, ◌∙◌, arith, append_assoc, append-nil}
-use Rattle.std.proofs.Common.{length-append}
+use Rattle.std.proofs.Common.{◌≡◌, ◌⊎◌, [], ◌∷◌, ◌++◌, ◌∙◌, IsTrue, List, MatchOption, None, Option, Some, ap}
+use Rattle.std.proofs.Common.{append-nil, append_assoc, arith, chars, inl, inr, is_some, length, length-append, refl}
+use Rattle.std.proofs.Common.{subst, sym, ℕ}
 use Rattle.std.specs.Option.{option_or}
 use Rattle.std.specs.FinMap as finite
 use Rattle.lex_base.specs.declared.table.NamedReference.{NamedReference}

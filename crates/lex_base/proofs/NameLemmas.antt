@@ -1,6 +1,6 @@
 -- What text a known name has, and which texts are none's.
-use Rattle.std.proofs.Common.{◌≡◌, ℕ, Bool, true, false, ◌||◌, List, [], ◌∷◌, true≢false, if◌then◌else◌, Option, None}
-use Rattle.std.proofs.Common.{Some, bytes_eq, is_some, refl, sym, ap, ◌∙◌}
+use Rattle.std.proofs.Common.{◌≡◌, ◌||◌, [], ◌∷◌, if◌then◌else◌, ◌∙◌, Bool, List, None, Option, Some, ap, bytes_eq}
+use Rattle.std.proofs.Common.{false, is_some, refl, sym, true, true≢false, ℕ}
 use Rattle.std.specs.List.{list_all}
 use Rattle.std.proofs.lemmas.Bool.{and_parts}
 use Rattle.std.proofs.lemmas.Slice.Eq.{bytes_eq-Decides}

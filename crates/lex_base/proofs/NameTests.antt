@@ -1,12 +1,13 @@
 -- Names and values of references, from what calls on the bytes of a text say.
-use Rattle.std.proofs.Common.{◌≡◌, ◌≢◌, ℕ, ◌-◌, ◌<◌, Bool, true, false, not, ◌&&◌, List, [], ◌∷◌, ◌++◌, length, take}
-use Rattle.std.proofs.Common.{drop, eqb, leb, Option, None, Some, MatchOption, IsUtf8, chars, unwrap_or, Bor, inl, inr}
-use Rattle.std.proofs.Common.{length-drop, refl, sym, ap, subst, ◌∙◌, arith, encode_utf8, encode_utf8_all, append-nil}
+use Rattle.std.proofs.Common.{◌≡◌, ◌≢◌, ◌-◌, ◌<◌, ◌&&◌, [], ◌∷◌, ◌++◌, ◌∙◌, Bool, Bor, IsUtf8, List, MatchOption, None}
+use Rattle.std.proofs.Common.{Option, Some, ap, append-nil, arith, chars, drop, encode_utf8, encode_utf8_all, eqb}
+use Rattle.std.proofs.Common.{false, inl, inr, leb, length, length-drop, not, refl, subst, sym, take, true, unwrap_or}
+use Rattle.std.proofs.Common.{ℕ}
 use Rattle.std.proofs.lemmas.Bool.{eqb-false, ne_eqb, lt-leb, lt-ltb, and_parts, cases_lt}
 use Rattle.std.proofs.lemmas.Bool.Decides.{nat_tests}
 use Rattle.std.proofs.lemmas.List.{take-append-drop, nil_from_length}
-use Rattle.std.proofs.lemmas.Str.{chars-append, chars_past_char, encodes-chars, encodes-append, IsUtf8-take}
-use Rattle.std.proofs.lemmas.Str.{IsUtf8-past_char, chars-nil, scalars-chars}
+use Rattle.std.proofs.lemmas.Str.{IsUtf8-past_char, IsUtf8-take, chars-append, chars-nil, chars_past_char}
+use Rattle.std.proofs.lemmas.Str.{encodes-append, encodes-chars, scalars-chars}
 use Rattle.std.proofs.Math.Bool.{and-true}
 use Rattle.std.proofs.Math.Utf8.{scalar}
 use Rattle.std.specs.Char.{IsScalar}

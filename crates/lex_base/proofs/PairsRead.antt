@@ -1,12 +1,12 @@
 -- How far the pairs of a table were read.
-use Rattle.std.proofs.Common.{◌≡◌, ℕ, zero, suc, ◌+◌, ◌<◌, ◌≤◌, List, [], ◌∷◌, ◌++◌, length, take, drop, get_or, map}
-use Rattle.std.proofs.Common.{Bor, IsErrAnd, IfErr, add-one, Result, Ok, Err, refl, sym, ap, subst, ◌∙◌, arith}
-use Rattle.std.proofs.Common.{append_assoc, append-nil}
+use Rattle.std.proofs.Common.{◌≡◌, ◌+◌, ◌<◌, ◌≤◌, [], ◌∷◌, ◌++◌, ◌∙◌, Bor, Err, IfErr, IsErrAnd, List, Ok, Result}
+use Rattle.std.proofs.Common.{add-one, ap, append-nil, append_assoc, arith, drop, get_or, length, map, refl, subst, suc}
+use Rattle.std.proofs.Common.{sym, take, zero, ℕ}
 use Rattle.std.proofs.lemmas.List.{reverse-append, take_all}
 use Rattle.std.specs.FinMap as finite
 use Rattle.lex_base.specs.Table.{pair_of}
 use Rattle.lex_base.specs.declared.table_error.TableError.{TableError}
-use Rattle.lex_base.specs.References.{Reference, References, references, checked, all_checked, result_then}
+use Rattle.lex_base.specs.References.{Reference, References, all_checked, checked, references, result_then}
 use Rattle.lex_base.specs.References.{table_of_pairs}
 
 -- Of the pairs a front was read: the table is that of the front, and each pair of the front is sound.

@@ -1,7 +1,7 @@
 -- Lists in the strict order of their keys: what a search finds in one, and what an edit at that place makes of it.
-use Rattle.std.proofs.Common.{◌≡◌, ◌≢◌, ℕ, zero, suc, ◌+◌, ◌<◌, ◌≤◌, Bool, true, false, cond, T, List, [], ◌∷◌, map}
-use Rattle.std.proofs.Common.{length, set, get_or, None, Some, Result, Ok, Err, Ordering, inl, inr, refl, sym, ap}
-use Rattle.std.proofs.Common.{subst, ◌∙◌, arith}
+use Rattle.std.proofs.Common.{◌≡◌, ◌≢◌, ◌+◌, ◌<◌, ◌≤◌, [], ◌∷◌, ◌∙◌, Bool, Err, List, None, Ok, Ordering, Result, Some}
+use Rattle.std.proofs.Common.{T, ap, arith, cond, false, get_or, inl, inr, length, map, refl, set, subst, suc, sym}
+use Rattle.std.proofs.Common.{true, zero, ℕ}
 use Rattle.std.specs.declared.cmp.Ordering.TheVariants.{Less, Equal, Greater}
 use Rattle.std.proofs.lemmas.Bool.{and_parts, cases_lt}
 use Rattle.std.specs.List.{insert}
@@ -63,12 +63,12 @@ module _ {K : Type 0} {R : K → K → Ordering} (o : IsTotalOrder R) where
     -- the keys before a place are below q, and those from it on are not
     pub record IsPlaceOf (ss : List S) (q : K) (i : ℕ) : Type 0 where
       pub before : (k : ℕ) (d : S) → k < i → R (key ss k d) q ≡ Less
-      pub behind : (k : ℕ) (d : S) → i ≤ k → k < length ss → R (key ss k d) q ≢ Less
+      pub trailing : (k : ℕ) (d : S) → i ≤ k → k < length ss → R (key ss k d) q ≢ Less
 
     -- the keys before a place are not above q, and those from it on are
-    pub record IsPlaceBehind (ss : List S) (q : K) (i : ℕ) : Type 0 where
+    pub record IsPlaceAfter (ss : List S) (q : K) (i : ℕ) : Type 0 where
       pub before : (k : ℕ) (d : S) → k < i → R (key ss k d) q ≢ Greater
-      pub behind : (k : ℕ) (d : S) → i ≤ k → k < length ss → R (key ss k d) q ≡ Greater
+      pub trailing : (k : ℕ) (d : S) → i ≤ k → k < length ss → R (key ss k d) q ≡ Greater
 
     below_at : (x : K) (ss : List S) (i : ℕ) (d : S) → below_all R x (map f ss) ≡ true → i < length ss →
         R x (key ss i d) ≡ Less
@@ -124,15 +124,15 @@ module _ {K : Type 0} {R : K → K → Ordering} (o : IsTotalOrder R) where
     put_gap : (ss : List S) (q : K) (v : X) (s' : S) (i : ℕ) → ((k : ℕ) (d : S) → k < i → R (key ss k d) q ≡ Less) →
         ((k : ℕ) (d : S) → i ≤ k → k < length ss → R (key ss k d) q ≡ Greater)
         → i ≤ length ss → f s' ≡ (q, v) → finite.put R q v (map f ss) ≡ map f (insert ss i s')
-    put_gap [] q v s' zero before behind le same = ap (λ e. e ∷ []) (sym same)
-    put_gap [] q v s' (suc i) before behind le same = absurd (omega arith)
-    put_gap (s ∷ ss) q v s' zero before behind le same =
-        let here = less_back (f s).0 q (behind 0 s (omega arith) (omega arith)) in
+    put_gap [] q v s' zero before trailing le same = ap (λ e. e ∷ []) (sym same)
+    put_gap [] q v s' (suc i) before trailing le same = absurd (omega arith)
+    put_gap (s ∷ ss) q v s' zero before trailing le same =
+        let here = less_back (f s).0 q (trailing 0 s (omega arith) (omega arith)) in
         rw here (ap (λ e. e ∷ f s ∷ map f ss) (sym same))
-    put_gap (s ∷ ss) q v s' (suc i) before behind le same =
+    put_gap (s ∷ ss) q v s' (suc i) before trailing le same =
         let past = greater_back (f s).0 q (before 0 s (omega arith)) in
         rw past (ap (λ es. f s ∷ es) (put_gap ss q v s' i (λ k d lt. before (suc k) d (omega arith))
-        (λ k d from lt. behind (suc k) d (omega arith) (omega arith)) (omega arith) same))
+        (λ k d from lt. trailing (suc k) d (omega arith) (omega arith)) (omega arith) same))
 
     -- what a binary search that found the key says
     pub find_found : (ss : List S) (q : K) (i : ℕ) (d : S) → Rises ss → IsSearchInRange (Ok i) (length ss) →
@@ -167,7 +167,7 @@ module _ {K : Type 0} {R : K → K → Ordering} (o : IsTotalOrder R) where
     placed_found ss q i h lt found = record {
       before = λ k d below. less_back q (key ss k d)
           (above_tied (key ss k d) (key ss i d) q (sorted_at ss k i d h below lt) (found d));
-      behind = λ k d from within is. let up = indexes_rise ss q h i k d from within in let one : ordering_index (R (key ss i d) q) ≡ 1 = ap ordering_index (found d) in let none : ordering_index (R (key ss k d) q) ≡ 0 = ap ordering_index is in omega arith;
+      trailing = λ k d from within is. let up = indexes_rise ss q h i k d from within in let one : ordering_index (R (key ss i d) q) ≡ 1 = ap ordering_index (found d) in let none : ordering_index (R (key ss k d) q) ≡ 0 = ap ordering_index is in omega arith;
     }
 
     placed_missed : (ss : List S) (q : K) (i : ℕ) → Rises ss → IsBinarySearchResult (λ s. R (f s).0 q) ss (Err i) →
@@ -176,7 +176,7 @@ module _ {K : Type 0} {R : K → K → Ordering} (o : IsTotalOrder R) where
         let sides = parted (indexes_rise ss q h) in
         record {
           before = λ k d below. sides.0 k d (omega arith) below;
-          behind = λ k d from within is. let g = sides.1 k d from within in let e : Less ≡ Greater = sym is ∙ g in cc;
+          trailing = λ k d from within is. let g = sides.1 k d from within in let e : Less ≡ Greater = sym is ∙ g in cc;
         }
 
     abbrev pub place_in : Result ℕ ℕ → ℕ
@@ -189,31 +189,31 @@ module _ {K : Type 0} {R : K → K → Ordering} (o : IsTotalOrder R) where
     placed ss q (Err i) h le parted = placed_missed ss q i h parted
 
     -- the place after the one that a search answers
-    behind_found : (ss : List S) (q : K) (i : ℕ) → Rises ss → i < length ss → ((d : S) → R (key ss i d) q ≡ Equal) →
-        IsPlaceBehind ss q (i + 1)
-    behind_found ss q i h lt found = record {
+    after_found : (ss : List S) (q : K) (i : ℕ) → Rises ss → i < length ss → ((d : S) → R (key ss i d) q ≡ Equal) →
+        IsPlaceAfter ss q (i + 1)
+    after_found ss q i h lt found = record {
       before = λ k d below is. let up = indexes_rise ss q h k i d (omega arith) lt in let one : ordering_index (R (key ss i d) q) ≡ 1 = ap ordering_index (found d) in let two : ordering_index (R (key ss k d) q) ≡ 2 = ap ordering_index is in absurd (omega arith);
-      behind = λ k d from within. greater_back q (key ss k d)
+      trailing = λ k d from within. greater_back q (key ss k d)
           (sym (o.congr (key ss i d) q (key ss k d) (found d)) ∙ sorted_at ss i k d h (omega arith) within);
     }
 
-    behind_missed : (ss : List S) (q : K) (i : ℕ) → Rises ss → IsBinarySearchResult (λ s. R (f s).0 q) ss (Err i) →
-        IsPlaceBehind ss q i
-    behind_missed ss q i h parted =
+    after_missed : (ss : List S) (q : K) (i : ℕ) → Rises ss → IsBinarySearchResult (λ s. R (f s).0 q) ss (Err i) →
+        IsPlaceAfter ss q i
+    after_missed ss q i h parted =
         let sides = parted (indexes_rise ss q h) in
         record {
           before = λ k d below is. let g = sides.0 k d (omega arith) below in let e : Less ≡ Greater = sym g ∙ is in cc;
-          behind = λ k d from within. sides.1 k d from within;
+          trailing = λ k d from within. sides.1 k d from within;
         }
 
-    abbrev pub place_behind : Result ℕ ℕ → ℕ
-    place_behind (Ok i) = i + 1
-    place_behind (Err i) = i
+    abbrev pub place_after : Result ℕ ℕ → ℕ
+    place_after (Ok i) = i + 1
+    place_after (Err i) = i
 
-    pub placed_behind : (ss : List S) (q : K) (r : Result ℕ ℕ) → Rises ss → IsSearchInRange r (length ss) →
-        IsBinarySearchResult (λ s. R (f s).0 q) ss r → IsPlaceBehind ss q (place_behind r)
-    placed_behind ss q (Ok i) h lt found = behind_found ss q i h lt found
-    placed_behind ss q (Err i) h le parted = behind_missed ss q i h parted
+    pub placed_after : (ss : List S) (q : K) (r : Result ℕ ℕ) → Rises ss → IsSearchInRange r (length ss) →
+        IsBinarySearchResult (λ s. R (f s).0 q) ss r → IsPlaceAfter ss q (place_after r)
+    placed_after ss q (Ok i) h lt found = after_found ss q i h lt found
+    placed_after ss q (Err i) h le parted = after_missed ss q i h parted
 
   -- the map of a list whose keys rise
   pub get_sorted : {X : Type 0} (es : List (K × X)) (q : K) → finite.is_sorted R es ≡ true →

@@ -1,6 +1,6 @@
 -- The names of stored references are names, and their values values.
-use Rattle.std.proofs.Common.{◌≡◌, ℕ, zero, suc, ◌<◌, Bool, true, false, cond, ◌&&◌, IsTrue, List, [], ◌∷◌, length, set}
-use Rattle.std.proofs.Common.{get_or, Option, None, Some, chars, string_bytes, refl, sym, ap, ◌∙◌, arith}
+use Rattle.std.proofs.Common.{◌≡◌, ◌<◌, ◌&&◌, [], ◌∷◌, ◌∙◌, Bool, IsTrue, List, None, Option, Some, ap, arith, chars}
+use Rattle.std.proofs.Common.{cond, false, get_or, length, refl, set, string_bytes, suc, sym, true, zero, ℕ}
 use Rattle.std.proofs.lemmas.Bool.{and_parts}
 use Rattle.std.proofs.lemmas.Option.{none-some, same_Some}
 use Rattle.std.specs.List.{insert, list_all}

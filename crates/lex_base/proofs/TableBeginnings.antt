@@ -1,7 +1,7 @@
 -- What the place of a text among the stored references says of the names that begin with it.
-use Rattle.std.proofs.Common.{◌≡◌, ◌≢◌, ◌⊎◌, ◌↔◌, ℕ, ◌<◌, ◌≤◌, Bool, true, false, List, ◌++◌, length, drop, get_or}
-use Rattle.std.proofs.Common.{None, is_some, IsTrue, Result, Ok, Err, MatchBool, IsUtf8, chars, string_bytes}
-use Rattle.std.proofs.Common.{encode_utf8_all, inl, inr, refl, sym, ap, subst, ◌∙◌, arith}
+use Rattle.std.proofs.Common.{◌≡◌, ◌≢◌, ◌⊎◌, ◌↔◌, ◌<◌, ◌≤◌, ◌++◌, ◌∙◌, Bool, Err, IsTrue, IsUtf8, List, MatchBool, None}
+use Rattle.std.proofs.Common.{Ok, Result, ap, arith, chars, drop, encode_utf8_all, false, get_or, inl, inr, is_some}
+use Rattle.std.proofs.Common.{length, refl, string_bytes, subst, sym, true, ℕ}
 use Rattle.std.proofs.lemmas.Str.{IsUtf8-string_bytes, chars-append, encodes-chars, encodes-append}
 use Rattle.std.specs.Str.Pattern.{HasPrefixMatch, FindsTextPrefix}
 use Rattle.std.specs.Ordering.{nat_cmp}

@@ -1,6 +1,6 @@
 -- What the search for a name among the stored references says of the table.
-use Rattle.std.proofs.Common.{◌≡◌, ℕ, List, length, set, get_or, None, Some, Result, Ok, Err, chars, string_bytes, sym}
-use Rattle.std.proofs.Common.{ap, subst, ◌∙◌}
+use Rattle.std.proofs.Common.{◌≡◌, ◌∙◌, Err, List, None, Ok, Result, Some, ap, chars, get_or, length, set, string_bytes}
+use Rattle.std.proofs.Common.{subst, sym, ℕ}
 use Rattle.std.specs.List.{insert}
 use Rattle.std.specs.List.Sorted.{IsBinarySearchResult, IsSearchInRange}
 use Rattle.std.specs.Ordering.{nat_cmp}
@@ -9,8 +9,8 @@ use Rattle.std.specs.FinMap as finite
 use Rattle.lex_base.specs.declared.table.Reference as stored
 use Rattle.lex_base.specs.References.{References}
 use Rattle.lex_base.specs.Table.{reference_of, references_of, table_of, AreInOrder}
-use Rattle.lex_base.proofs.SortedEntries.{find_found, find_missed, put_found, put_missed, get_sorted, put_rises}
-use Rattle.lex_base.proofs.SortedEntries.{put_inserts}
+use Rattle.lex_base.proofs.SortedEntries.{find_found, find_missed, get_sorted, put_found, put_inserts, put_missed}
+use Rattle.lex_base.proofs.SortedEntries.{put_rises}
 
 -- what the search for a name ensures
 abbrev pub Searched : List ℕ → List stored.Reference → Result ℕ ℕ → Type 0

@@ -1,6 +1,6 @@
 -- Beginnings of texts in the order of texts.
-use Rattle.std.proofs.Common.{◌≡◌, ◌≢◌, ℕ, zero, suc, ◌<◌, Bool, true, false, cond, List, [], ◌∷◌, ◌++◌, map, length}
-use Rattle.std.proofs.Common.{Some, IsSome, Ordering, refl, sym, ap, subst, ◌∙◌, arith, append-nil}
+use Rattle.std.proofs.Common.{◌≡◌, ◌≢◌, ◌<◌, [], ◌∷◌, ◌++◌, ◌∙◌, Bool, IsSome, List, Ordering, Some, ap, append-nil}
+use Rattle.std.proofs.Common.{arith, cond, false, length, map, refl, subst, suc, sym, true, zero, ℕ}
 use Rattle.std.specs.declared.cmp.Ordering.TheVariants.{Less, Equal, Greater}
 use Rattle.std.proofs.lemmas.Bool.{and_parts}
 use Rattle.std.specs.Ordering.{is_eq, nat_cmp, ordering_then, ordering_reverse}
@@ -8,8 +8,7 @@ use Rattle.std.specs.Cmp.{nat_cmp_total, tied_itself}
 use Rattle.std.specs.Cmp.Lexicographic.{slice_cmp, nat_list_cmp_total}
 use Rattle.std.specs.FinMap as finite
 use Rattle.std.specs.FinMap.Entries.{below_all}
-use Rattle.lex_base.proofs.SortedEntries.{IsPlaceOf, IsPlaceBehind, Rises, key, equal, less, less_back}
-use Rattle.lex_base.proofs.SortedEntries.{greater_back}
+use Rattle.lex_base.proofs.SortedEntries.{IsPlaceAfter, IsPlaceOf, Rises, equal, greater_back, key, less, less_back}
 
 abbrev pub order : List ℕ → List ℕ → Ordering
 order = slice_cmp nat_cmp
@@ -90,7 +89,7 @@ module _ {S : Type 0} (f : S → List ℕ × List ℕ) where
   place_begins (s ∷ ss) text more zero h place found = (
     omega arith,
     λ d. first_begins s ss text more (is_eq (order (text ++ more) (f s).0)) refl (and_parts _ _ h).0
-        (place.behind 0 s (omega arith) (omega arith)) found,
+        (place.trailing 0 s (omega arith) (omega arith)) found,
   )
   place_begins (s ∷ ss) text more (suc i) h place found =
       let below = below_longer (f s).0 text more (place.before 0 s (omega arith)) in
@@ -102,7 +101,7 @@ module _ {S : Type 0} (f : S → List ℕ × List ℕ) where
       place_begins ss text more i (and_parts _ _ h).1
       (record {
         before = λ k d lt. place.before (suc k) d (omega arith);
-        behind = λ k d from lt. place.behind (suc k) d (omega arith) (omega arith);
+        trailing = λ k d from lt. place.trailing (suc k) d (omega arith) (omega arith);
       }) later in
       (more_below (length ss) i rest.0, rest.1)
 
@@ -132,11 +131,11 @@ longer_than t m (c ∷ more) above e = (c, more, refl)
 -- The first key above a text begins with it, if any longer key does.
 module _ {S : Type 0} (f : S → List ℕ × List ℕ) where
   pub place_longer : (ss : List S) (text : List ℕ) (c : ℕ) (more : List ℕ) (i : ℕ) → Rises nat_list_cmp_total f ss →
-      IsPlaceBehind nat_list_cmp_total f ss text i → IsSome (finite.find order (text ++ c ∷ more) (map f ss))
+      IsPlaceAfter nat_list_cmp_total f ss text i → IsSome (finite.find order (text ++ c ∷ more) (map f ss))
       → (i < length ss) × ((d : S) → (rest : List ℕ) × (key nat_list_cmp_total f ss i d ≡ text ++ rest))
   place_longer [] text c more i h place found = cc
   place_longer (s ∷ ss) text c more zero h place found =
-      let above = place.behind 0 s (omega arith) (omega arith) in (
+      let above = place.trailing 0 s (omega arith) (omega arith) in (
         omega arith,
         λ d. first_begins f s ss text (c ∷ more) (is_eq (order (text ++ c ∷ more) (f s).0)) refl
             (and_parts _ _ h).0 (λ low. let wrong : Less ≡ Greater = sym low ∙ above in cc) found,
@@ -151,6 +150,6 @@ module _ {S : Type 0} (f : S → List ℕ × List ℕ) where
       place_longer ss text c more i (and_parts _ _ h).1
       (record {
         before = λ k d lt. place.before (suc k) d (omega arith);
-        behind = λ k d from lt. place.behind (suc k) d (omega arith) (omega arith);
+        trailing = λ k d from lt. place.trailing (suc k) d (omega arith) (omega arith);
       }) later in
       (more_below (length ss) i rest.0, rest.1)

@@ -1,6 +1,6 @@
 -- Words of ASCII characters.
-use Rattle.std.proofs.Common.{◌≡◌, ℕ, IsTrue, Bool, true, false, List, [], ◌∷◌, IsUtf8, chars, bytes_eq}
-use Rattle.std.proofs.Common.{ap, sym, ◌∙◌, arith, zero, suc, refl, true≢false}
+use Rattle.std.proofs.Common.{◌≡◌, [], ◌∷◌, ◌∙◌, Bool, IsTrue, IsUtf8, List, ap, arith, bytes_eq, chars, false, refl}
+use Rattle.std.proofs.Common.{suc, sym, true, true≢false, zero, ℕ}
 use Rattle.std.specs.Bool.{nat_lt}
 use Rattle.std.specs.Str.{IsAscii}
 use Rattle.std.proofs.lemmas.Bool.{and_parts, ltb-true}

@@ -1,13 +1,12 @@
 -- The table of references that a JSON text gives, in the form in which the standard publishes it (WHATWG HTML, 13.5):
 -- an object whose keys are `&` and a name, and whose values are objects with `codepoints`, an array of whole numbers.
-use Rattle.std.specs.Prelude.{ℕ, ◌==◌, ◌&&◌, if◌then◌else◌, List, [], ◌∷◌, chars, codes, Option, Some, None, option_map}
-use Rattle.std.specs.Prelude.{option_and_then, Result, Ok, Err}
+use Rattle.std.specs.Prelude.{◌==◌, ◌&&◌, if◌then◌else◌, [], ◌∷◌, Err, List, None, Ok, Option, Result, Some, chars}
+use Rattle.std.specs.Prelude.{codes, option_and_then, option_map, ℕ}
 use Rattle.serde_json.specs.Data.{Data, Items, no_items, item, Members, no_members, member}
 use Rattle.serde_json.specs.Find.{get, as_array, as_object, as_number, as_u64}
 use Rattle.serde_json.specs.Read.{read}
 use Rattle.lex_base.specs.declared.table_error.TableError.{TableError}
-use Rattle.lex_base.specs.declared.table_error.TableError.TheVariants.{NotJson, NotAnObject, BadName}
-use Rattle.lex_base.specs.declared.table_error.TableError.TheVariants.{BadCodePoints}
+use Rattle.lex_base.specs.declared.table_error.TableError.TheVariants.{BadCodePoints, BadName, NotAnObject, NotJson}
 use Rattle.lex_base.specs.References.{Reference, References, references, is_name, is_value, result_then}
 
 -- the whole numbers of an array, where it has nothing else

@@ -1,6 +1,6 @@
 -- The names that are known without a text.
-use Rattle.std.specs.Prelude.{ℕ, ◌+◌, ◌*◌, ◌%◌, ◌-◌, List, [], ◌∷◌, bytes_eq, codes, if◌then◌else◌, Option, None, Some}
-use Rattle.std.specs.Prelude.{Bool, is_some, length, slice_index_or}
+use Rattle.std.specs.Prelude.{◌+◌, ◌*◌, ◌%◌, ◌-◌, [], ◌∷◌, if◌then◌else◌, Bool, List, None, Option, Some, bytes_eq}
+use Rattle.std.specs.Prelude.{codes, is_some, length, slice_index_or, ℕ}
 use Rattle.lex_base.specs.declared.known.KnownName.{KnownName}
 use Rattle.lex_base.specs.declared.known.KnownName.TheVariants as names
 

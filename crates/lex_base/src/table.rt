@@ -1,5 +1,5 @@
-ghost use Rattle.std.specs.Prelude.{◌≡◌, ◌⊎◌, ◌↔◌, ℕ, List, Some, IsTrue, IfOk, IfErr, OnOk, OnErr, Ok, Err};
-ghost use Rattle.std.specs.Prelude.{MatchOption, chars, map, option_map, length, string_bytes};
+ghost use Rattle.std.specs.Prelude.{◌≡◌, ◌⊎◌, ◌↔◌, Err, IfErr, IfOk, IsTrue, List, MatchOption, Ok, OnErr, OnOk, Some};
+ghost use Rattle.std.specs.Prelude.{chars, length, map, option_map, string_bytes, ℕ};
 ghost use Rattle.std.specs.Ordering.{nat_cmp};
 ghost use Rattle.std.specs.Cmp.Lexicographic.{slice_cmp};
 ghost use Rattle.std.specs.List.Sorted.{IsBinarySearchResult, IsSearchInRange};
@@ -175,11 +175,11 @@ impl ReferenceTable {
         ensures { IsTrue result ↔ HasLongerName self.now (chars text.now) }
     {
         let references = self.references.as_slice();
-        let behind = match place_of(references, text) {
+        let trailing = match place_of(references, text) {
             Ok(at) => at + 1,
             Err(at) => at,
         };
-        let Some(longer) = references.get(behind) else {
+        let Some(longer) = references.get(trailing) else {
             return false;
         };
         longer.name.as_str().starts_with(text)

@@ -1,6 +1,5 @@
 -- Of equal values there is one answer at a width.
-use Rattle.std.proofs.Common.{◌≡◌, inl, inr, refl, sym, ap, ◌∙◌, arith, ℕ, ◌<◌, List}
-use Rattle.std.proofs.Common.{None, Some}
+use Rattle.std.proofs.Common.{◌≡◌, ◌∙◌, ◌<◌, List, None, Some, ap, arith, inl, inr, refl, sym, ℕ}
 use Rattle.std.specs.Prelude.{unwrap_or}
 use Rattle.html_render_tree.specs.PageLines.{Setting, page_lines}
 use Rattle.page_config.specs.PageAnswers.{IsAnswerOf, PageAnswer, fail, lines, too_narrow}

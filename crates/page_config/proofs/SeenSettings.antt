@@ -42,4 +42,4 @@ module _ {T A : Type 0} (m : Marking (Unit {0}) A) (seen : T → A)
 
   pub texts_alike : (text : List ℕ) → HasText m seen closes c width bytes text
       → HasText m seen closes d width bytes text
-  texts_alike text t = record { shown = t.shown; answer = answers_alike (lines t.shown) t.answer; told = t.told }
+  texts_alike text t = record { shown = t.shown; answer = answers_alike (lines t.shown) t.answer; emitted = t.emitted }

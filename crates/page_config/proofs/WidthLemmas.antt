@@ -34,7 +34,7 @@ module _ {T H A : Type 0} (m : Marking H A) (seen : T → A) (closes : H → Lis
         → IsTextWithin width text
     text_within numbered keeps c width bytes text steady off wrapped wide has = record {
       lines = map characters has.shown;
-      given = has.told ∙ as_lines has.shown;
+      given = has.emitted ∙ as_lines has.shown;
       within = All-map (λ line. text_columns line ≤ width) characters has.shown
           (within_width numbered keeps c width bytes has.shown steady off wrapped wide has.answer);
     }

@@ -50,7 +50,7 @@ pub record HasText {T H A : Type 0} (m : Marking H A) (seen : T → A)
     : Type 0 where
   pub shown : List (List (Item (List A)))
   pub answer : HasAnswer m seen closes c width bytes (lines shown)
-  pub told : text ≡ lines_text shown
+  pub emitted : text ≡ lines_text shown
 
 -- However a decorator's annotations are seen, this is the answer.
 abbrev pub Answers : {D T H A : Type 0} → (T → A) → DecoratorView D H T
@@ -59,7 +59,7 @@ Answers seen view c width bytes answer = (tag : _) → IsTagging seen view tag
     → HasAnswer (marking view tag) seen view.closes c width bytes answer
 
 -- However they are seen, this is the text.
-abbrev pub IsTold : {D T H A : Type 0} → (T → A) → DecoratorView D H T
-    → PageSetting H → ℕ → (bytes told : List ℕ) → Type 0
-IsTold seen view c width bytes told = (tag : _) → IsTagging seen view tag
-    → HasText (marking view tag) seen view.closes c width bytes told
+abbrev pub IsEmitted : {D T H A : Type 0} → (T → A) → DecoratorView D H T
+    → PageSetting H → ℕ → (bytes emitted : List ℕ) → Type 0
+IsEmitted seen view c width bytes emitted = (tag : _) → IsTagging seen view tag
+    → HasText (marking view tag) seen view.closes c width bytes emitted

@@ -1,17 +1,17 @@
 //! How pages are read and rendered.
-ghost use Rattle.std.specs.Prelude.{◌≡◌, ◌≢◌, ◌⊎◌, ◌<◌, ◌≤◌, ◌++◌, true, false, Err, IfErr, IfOk, Some};
-ghost use Rattle.std.specs.Prelude.{chars, map, string_bytes};
+ghost use Rattle.std.specs.Prelude.{◌≡◌, ◌≢◌, ◌⊎◌, ◌<◌, ◌≤◌, ◌++◌, Err, IfErr, IfOk, Some, chars, false, map};
+ghost use Rattle.std.specs.Prelude.{string_bytes, true};
 
 use crate::error::Error;
+use block_trait::{ImageRenderMode, RenderOptions};
+use dom_styles::StyleRule;
 use html_lexemes::ReferenceTable;
 use html_render_dom::RcDom;
 use html_render_tree::{RenderConfig, RenderTree};
 use html_tree_builder::ParseOpts;
-use block_trait::{ImageRenderMode, RenderOptions};
 use std::alloc::Global;
-use dom_styles::StyleRule;
-use text_lines::TaggedLine;
 use text_decorators::TextDecorator;
+use text_lines::TaggedLine;
 
 /// How pages are read and rendered: the table of references, how a page is parsed, how it is rendered, and how many
 /// bytes it may have.

@@ -9,7 +9,9 @@ ghost use Rattle.lex_base.specs.References.{References};
 ghost use Rattle.text_lines.specs.Tagged.{Item};
 ghost use Rattle.text_decorators.specs.Marks.{IsSteady, Mark};
 
-use html_render_tree::{pages_are_numbered, pages_keep_the_width, pages_with_room_are_never_too_narrow};
+use html_render_tree::{
+    pages_are_numbered, pages_keep_the_width, pages_with_room_are_never_too_narrow,
+};
 use page_reading::{a_page_has_a_tree_of_bytes, a_page_has_one_tree_of_bytes};
 use text_decorators::{PlainDecorator, TextDecorator};
 

@@ -1,6 +1,6 @@
 //! A page piece by piece.
-ghost use Rattle.std.specs.Prelude.{◌≡◌, ◌+◌, ◌<◌, ◌++◌, ◌⊎◌, ℕ, List, [], true, false, length, is_err, Err};
-ghost use Rattle.std.specs.Prelude.{IfErr, IfOk, OnOk};
+ghost use Rattle.std.specs.Prelude.{◌≡◌, ◌+◌, ◌<◌, ◌++◌, ◌⊎◌, [], Err, IfErr, IfOk, List, OnOk, false, is_err, length};
+ghost use Rattle.std.specs.Prelude.{true, ℕ};
 ghost use Rattle.tree_forest.specs.Forest.{Forest};
 ghost use Rattle.tree_forest.specs.declared.sink.QuirksMode.{QuirksMode as Quirks};
 ghost use Rattle.page_config.specs.declared.error.Error.TheVariants.{Fail, Memory, TooLong};

@@ -17,8 +17,8 @@ use crate::error::Error;
 use html_lexemes::{ByteReader, ReferenceTable};
 use html_render_tree::RenderTree;
 use std::alloc::Global;
-use text_lines::TaggedLine;
 use text_decorators::{RichAnnotation, RichDecorator, TrivialDecorator};
+use text_lines::TaggedLine;
 
 /// A line of rich text.
 pub type RichLine = TaggedLine<Vec<RichAnnotation>>;

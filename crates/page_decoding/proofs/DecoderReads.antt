@@ -1,7 +1,7 @@
 -- What a loop over bytes has read: steps, and how one reading follows another.
-use Rattle.std.proofs.Common.{◌≡◌, ℕ, ◌+◌, ◌<◌, ◌≤◌, IsTrue, List, [], ◌∷◌, ◌++◌, length, take, drop, Option, Some}
-use Rattle.std.proofs.Common.{None, IsUtf8, refl, sym, ap, subst, ◌∙◌, arith, append_assoc, append-nil, drop-drop}
-use Rattle.std.proofs.Common.{take-append-drop, take_all}
+use Rattle.std.proofs.Common.{◌≡◌, ◌+◌, ◌<◌, ◌≤◌, [], ◌∷◌, ◌++◌, ◌∙◌, IsTrue, IsUtf8, List, None, Option, Some, ap}
+use Rattle.std.proofs.Common.{append-nil, append_assoc, arith, drop, drop-drop, length, refl, subst, sym, take}
+use Rattle.std.proofs.Common.{take-append-drop, take_all, ℕ}
 use Rattle.std.specs.Char.{encode_utf8}
 use Rattle.std.specs.Str.{chars, IsValidUpTo, IsErrorLen}
 use Rattle.std.specs.Str.Lossy.{utf8_error_len}
@@ -10,7 +10,7 @@ use Rattle.std.proofs.Math.Seq.{drop-append-add}
 use Rattle.std.proofs.lemmas.Str.{chars-nil, chars-append}
 use Rattle.bstr.proofs.lemmas.UnicodeLemmas.{none_after_valid}
 use Rattle.page_decoding.specs.ReplacedText.{replacement, replaced_text, is_unfinished}
-use Rattle.page_decoding.proofs.DecoderText.{replaced_text-nil, replaced_text-front, replaced_text-fault}
+use Rattle.page_decoding.proofs.DecoderText.{replaced_text-fault, replaced_text-front, replaced_text-nil}
 use Rattle.page_decoding.proofs.DecoderText.{replaced_text-unfinished, unfinished-ends}
 
 -- whatever follows, the old text and the bytes come to the new text and the bytes left

@@ -1,20 +1,19 @@
 -- The table of well-formed sequences beside `decoded`: which row a first byte leads, and what the first part of
 -- some bytes is.
-use Rattle.std.proofs.Common.{◌≡◌, ℕ, suc, ◌+◌, ◌<◌, ◌≤◌, Bool, true, false, ◌&&◌, ◌||◌, nat_le, nat_lt, max, List, []}
-use Rattle.std.proofs.Common.{◌∷◌, ◌++◌, length, take, drop, map, slice_index, Some, None, ◌⊎◌, inl, inr, ⊎_elim, refl}
-use Rattle.std.proofs.Common.{sym, ap, subst, ◌∙◌, arith}
+use Rattle.std.proofs.Common.{◌≡◌, ◌+◌, ◌<◌, ◌≤◌, ◌&&◌, ◌||◌, [], ◌∷◌, ◌++◌, ◌⊎◌, ⊎_elim, ◌∙◌, Bool, List, None, Some}
+use Rattle.std.proofs.Common.{ap, arith, drop, false, inl, inr, length, map, max, nat_le, nat_lt, refl, slice_index}
+use Rattle.std.proofs.Common.{subst, suc, sym, take, true, ℕ}
 use Rattle.std.specs.Prelude.{◌==◌, if◌then◌else◌}
 use Rattle.std.specs.List.{list_any}
-use Rattle.std.proofs.lemmas.Bool.{cases_lt, cases_eq, cases_Bool, cond-true, cond-false, and_parts, and_left}
-use Rattle.std.proofs.lemmas.Bool.{and_right, lt-leb, le-leb, and_from}
+use Rattle.std.proofs.lemmas.Bool.{and_from, and_left, and_parts, and_right, cases_Bool, cases_eq, cases_lt, cond-false}
+use Rattle.std.proofs.lemmas.Bool.{cond-true, le-leb, lt-leb}
 use Rattle.std.proofs.lemmas.Bool.Decides.{nat_tests}
 use Rattle.std.proofs.lemmas.List.Folds.{list_any-append}
 use Rattle.bstr.specs.Utf8.{Decoded, decoded, good, bad, or_replacement, second, continues}
-use Rattle.bstr.proofs.lemmas.PieceLemmas.{value-1, value-2, value-3, value-4, value-5, value-6, value-7, value-8}
-use Rattle.bstr.proofs.lemmas.PieceLemmas.{value-9, value-10, value-11, value-12}
-use Rattle.page_decoding.specs.ReplacedText.{ByteRange, to, continuation, table, is_in, fitting, begins_with_row}
-use Rattle.page_decoding.specs.ReplacedText.{greatest, part_length, code_point, replacement, part_character}
-use Rattle.page_decoding.specs.ReplacedText.{is_beginning}
+use Rattle.bstr.proofs.lemmas.PieceLemmas.{value-1, value-10, value-11, value-12, value-2, value-3, value-4, value-5}
+use Rattle.bstr.proofs.lemmas.PieceLemmas.{value-6, value-7, value-8, value-9}
+use Rattle.page_decoding.specs.ReplacedText.{ByteRange, begins_with_row, code_point, continuation, fitting, greatest}
+use Rattle.page_decoding.specs.ReplacedText.{is_beginning, is_in, part_character, part_length, replacement, table, to}
 
 -- ---- the row that a byte leads
 

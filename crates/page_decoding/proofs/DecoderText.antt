@@ -1,25 +1,25 @@
 -- The replaced text of bytes, part by part, and what more bytes after them change.
-use Rattle.std.proofs.Common.{◌≡◌, ℕ, zero, suc, ◌+◌, ◌<◌, ◌≤◌, Bool, true, false, IsTrue, List, [], ◌∷◌, ◌++◌, length}
-use Rattle.std.proofs.Common.{drop, map, slice_index, Some, None, IsUtf8, chars, ◌⊎◌, ⊎_elim, refl, sym, ap, ◌∙◌, arith}
-use Rattle.std.proofs.Common.{length-append}
+use Rattle.std.proofs.Common.{◌≡◌, ◌+◌, ◌<◌, ◌≤◌, [], ◌∷◌, ◌++◌, ◌⊎◌, ⊎_elim, ◌∙◌, Bool, IsTrue, IsUtf8, List, None}
+use Rattle.std.proofs.Common.{Some, ap, arith, chars, drop, false, length, length-append, map, refl, slice_index, suc}
+use Rattle.std.proofs.Common.{sym, true, zero, ℕ}
 use Rattle.std.specs.Prelude.{◌==◌, if◌then◌else◌}
 use Rattle.std.specs.Option.{unwrap_or}
 use Rattle.std.specs.Str.Lossy.{utf8_error_len}
-use Rattle.std.proofs.lemmas.Bool.{cases_lt, and_parts, and_from, and_left, ne_eqb, eqb-true, eqb-false, eq-eqb, le-leb}
-use Rattle.std.proofs.lemmas.Bool.{leb-true, cond_both, true≢false}
+use Rattle.std.proofs.lemmas.Bool.{and_from, and_left, and_parts, cases_lt, cond_both, eq-eqb, eqb-false, eqb-true}
+use Rattle.std.proofs.lemmas.Bool.{le-leb, leb-true, ne_eqb, true≢false}
 use Rattle.std.proofs.lemmas.Bool.Decides.{nat_tests}
 use Rattle.std.proofs.lemmas.List.{get_or_append_left, drop-append-le, drop_all}
 use Rattle.std.proofs.lemmas.Str.{chars-encodes}
-use Rattle.bstr.specs.Utf8.{Decoded, decoded, decoded_by, bad, or_replacement, second, continues, lossy_chars}
-use Rattle.bstr.specs.Utf8.{pieces_from}
-use Rattle.bstr.proofs.lemmas.PieceLemmas.{value-2, value-3, value-5, value-8, value-11, by-shape, piece-bounds}
-use Rattle.bstr.proofs.lemmas.PieceLemmas.{lossy_chars-step, lossy_chars-nil}
+use Rattle.bstr.specs.Utf8.{Decoded, bad, continues, decoded, decoded_by, lossy_chars, or_replacement, pieces_from}
+use Rattle.bstr.specs.Utf8.{second}
+use Rattle.bstr.proofs.lemmas.PieceLemmas.{by-shape, lossy_chars-nil, lossy_chars-step, piece-bounds, value-11, value-2}
+use Rattle.bstr.proofs.lemmas.PieceLemmas.{value-3, value-5, value-8}
 use Rattle.bstr.proofs.lemmas.LossyLemmas.{lossy_chars-front, utf8_invalid_len-decoded}
-use Rattle.page_decoding.specs.ReplacedText.{ByteRange, table, fitting, part_length, replacement, text_of_parts}
-use Rattle.page_decoding.specs.ReplacedText.{replaced_text, is_in, is_beginning, is_unfinished}
-use Rattle.page_decoding.proofs.DecoderTable.{RowOf, no_row, one_byte, two_bytes, three_bytes, four_bytes, class_of}
-use Rattle.page_decoding.proofs.DecoderTable.{PartIs, PartIs-decoded, part_character-PartIs, begins, begins-row}
-use Rattle.page_decoding.proofs.DecoderTable.{beginning-row, part_length-row, any-misses, Misses, ill}
+use Rattle.page_decoding.specs.ReplacedText.{ByteRange, fitting, is_beginning, is_in, is_unfinished, part_length}
+use Rattle.page_decoding.specs.ReplacedText.{replaced_text, replacement, table, text_of_parts}
+use Rattle.page_decoding.proofs.DecoderTable.{Misses, PartIs, PartIs-decoded, RowOf, any-misses, beginning-row, begins}
+use Rattle.page_decoding.proofs.DecoderTable.{begins-row, class_of, four_bytes, ill, no_row, one_byte}
+use Rattle.page_decoding.proofs.DecoderTable.{part_character-PartIs, part_length-row, three_bytes, two_bytes}
 
 -- a term of the type given
 abbrev by : (A : Type 0) → A → A

@@ -1,7 +1,7 @@
 -- How bytes read as UTF-8 (Unicode Standard, 3.9: Table 3-7, Table 3-6 and "U+FFFD Substitution of Maximal
 -- Subparts"). Numbers are bytes on the one side and code points on the other.
-use Rattle.std.specs.Prelude.{ℕ, zero, suc, ◌+◌, ◌-◌, ◌*◌, Bool, true, ◌&&◌, ◌==◌, nat_le, max, List, [], ◌∷◌, length}
-use Rattle.std.specs.Prelude.{take, drop, map, if◌then◌else◌}
+use Rattle.std.specs.Prelude.{◌+◌, ◌-◌, ◌*◌, ◌&&◌, ◌==◌, [], ◌∷◌, if◌then◌else◌, Bool, List, drop, length, map, max}
+use Rattle.std.specs.Prelude.{nat_le, suc, take, true, zero, ℕ}
 use Rattle.std.specs.List.{list_any}
 
 -- the bytes from one to another, both included

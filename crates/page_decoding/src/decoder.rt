@@ -1,5 +1,5 @@
-ghost use Rattle.std.specs.Prelude.{◌≡◌, ℕ, ◌≤◌, ◌++◌, List, [], true, false, is_err, length, chars, string_bytes};
-ghost use Rattle.std.specs.Prelude.{◌+◌, ◌∷◌, take, drop, IfOk, IfErr, OnErr, Err, IsTrue};
+ghost use Rattle.std.specs.Prelude.{◌≡◌, ◌≤◌, ◌++◌, [], ◌+◌, ◌∷◌, Err, IfErr, IfOk, IsTrue, List, OnErr, chars, drop};
+ghost use Rattle.std.specs.Prelude.{false, is_err, length, string_bytes, take, true, ℕ};
 ghost use Rattle.page_decoding.specs.ReplacedText.{replaced_text, is_unfinished};
 
 use html_lexemes::ParseFault;

@@ -7,9 +7,9 @@ ghost use Rattle.page_laws.specs.Trees.{HasSkeletonOfBytes, HasSkeletonOfTree, K
 ghost use Rattle.html_tree_builder.specs.Begun.{begun};
 ghost use Rattle.rules_table.specs.declared.options.TreeBuilderOpts.{TreeBuilderOpts as Options};
 
-use tree_forest::TreeSink;
 use html_render_dom::RcDom;
 use page_tree_laws::{a_page_has_its_skeleton, the_text_of_a_page_is_kept};
+use tree_forest::TreeSink;
 
 /// A tree builder that has just begun on a forest is where laws of whole pages ask it to be, whatever its options are.
 pub fn a_page_is_at_its_beginning()

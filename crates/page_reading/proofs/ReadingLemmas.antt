@@ -1,6 +1,6 @@
 -- What a loop of reads has read of a page so far.
-use Rattle.std.proofs.Common.{◌≡◌, ℕ, ◌+◌, Bool, true, false, List, [], ◌++◌, length, Option, None, Some, IfSome}
-use Rattle.std.proofs.Common.{refl, ◌∙◌, length-append, subst, arith}
+use Rattle.std.proofs.Common.{◌≡◌, ◌+◌, [], ◌++◌, ◌∙◌, Bool, IfSome, List, None, Option, Some, arith, false, length}
+use Rattle.std.proofs.Common.{length-append, refl, subst, true, ℕ}
 use Rattle.std.specs.Io.KnownBytes.{Consumes, IsAtEnd}
 use Rattle.tree_forest.specs.Forest.{Forest}
 use Rattle.tree_forest.specs.declared.sink.QuirksMode.{QuirksMode}

@@ -6,11 +6,11 @@ ghost use Rattle.html_tree_builder.specs.Parsers.{Completes, IsFit, has_failed};
 ghost use Rattle.rules_table.specs.State.{State};
 ghost use Rattle.page_decoding.specs.ReplacedText.{replaced_text};
 
-use tree_forest::TreeSink;
 use html_lexemes::ParseFault;
 use html_tree_builder::Parser;
-use std::alloc::Global;
 use page_decoding::Utf8LossyDecoder;
+use std::alloc::Global;
+use tree_forest::TreeSink;
 
 /// Reads a piece of a page: its text, as far as it is complete, goes to the parser.
 pub(crate) fn feed<S: TreeSink>(

@@ -7,10 +7,10 @@ ghost use Rattle.html_tree_builder.specs.Grown.{Beginning, IsTreeOfPage};
 ghost use Rattle.html_tree_builder.specs.declared.options.ParseOpts.{ParseOpts as Options};
 ghost use Rattle.page_reading.specs.PageTrees.{IsTreeOfBytes};
 
-use tree_forest::TreeSink;
-use token_grammar::laws::some_reading;
 use html_render_dom::RcDom;
 use html_tree_builder::{TreeBuilder, a_page_has_one_tree};
+use token_grammar::laws::some_reading;
+use tree_forest::TreeSink;
 
 /// Bytes have one tree: equal bytes, read by equal tables and options, in whatever pieces, have equal forests and equal
 /// quirks modes.

@@ -6,30 +6,28 @@ use Rattle.html_tree_state.specs.Formatting.{name_for}
 use Rattle.html_tree_state.specs.Insertions.{here, root_of}
 use Rattle.html_tree_state.specs.OpenElements.{first_of}
 use Rattle.page_tree_laws.proofs.Fits.{AreLater, FitAll, Fits, GoesTo, IsHeld, IsPushed, MayReset}
-use Rattle.page_tree_laws.proofs.Guards.{is_of_templates}
+use Rattle.page_tree_laws.proofs.Guards.{Guard, HasFreeCurrent, IsFree, IsGuard, IsGuarded, is_of_templates}
 use Rattle.page_tree_laws.proofs.GuardedAdoption.{adopted_in_scope_guarded, adoption_guarded}
 use Rattle.page_tree_laws.proofs.GuardedLists.{cleared_guarded, listed_guarded, marked_guarded, reconstructed_guarded}
 use Rattle.page_tree_laws.proofs.GuardedLists.{unlisted_guarded}
 use Rattle.page_tree_laws.proofs.GuardedPops.{broken_out_guarded, closed_foreign_guarded, closed_item_guarded}
 use Rattle.page_tree_laws.proofs.GuardedPops.{closed_other_guarded, closed_p_guarded, implied_guarded}
-use Rattle.page_tree_laws.proofs.GuardedPops.{popped_down_guarded, popped_guarded, popped_if_guarded}
-use Rattle.page_tree_laws.proofs.GuardedPops.{popped_to_guarded, taken_off_guarded}
+use Rattle.page_tree_laws.proofs.GuardedPops.{popped_down_guarded, popped_guarded, popped_if_guarded, popped_to_guarded}
+use Rattle.page_tree_laws.proofs.GuardedPops.{taken_off_guarded}
 use Rattle.page_tree_laws.proofs.GuardedWords.{attributes_guarded, comment_guarded, doctype_guarded, foreign_guarded}
-use Rattle.page_tree_laws.proofs.GuardedWords.{foster_guarded, inserted_guarded, into_head_guarded, out_of_place_guarded}
-use Rattle.page_tree_laws.proofs.GuardedWords.{quirks_guarded, said_guarded, void_guarded, void_into_head_guarded}
-use Rattle.page_tree_laws.proofs.Guards.{Guard, HasFreeCurrent, IsFree, IsGuard, IsGuarded}
+use Rattle.page_tree_laws.proofs.GuardedWords.{foster_guarded, inserted_guarded, into_head_guarded}
+use Rattle.page_tree_laws.proofs.GuardedWords.{out_of_place_guarded, quirks_guarded, said_guarded, void_guarded}
+use Rattle.page_tree_laws.proofs.GuardedWords.{void_into_head_guarded}
 use Rattle.rules_table.specs.Actions.{Action, act, act_all, add_attributes, adopt, adopt_in_scope, append_doctype}
-use Rattle.rules_table.specs.Actions.{break_out, but_text, clear_to_marker, close_foreign}
-use Rattle.rules_table.specs.Actions.{close_item, close_other, close_p}
-use Rattle.rules_table.specs.Actions.{comment_to_document, comment_to_root, forget_form, forget_pending, foster, go_back}
-use Rattle.rules_table.specs.Actions.{go_to, hold_mode, imply_but, in_html, insert, insert_comment, insert_foreign}
-use Rattle.rules_table.specs.Actions.{insert_formatting, insert_named, insert_void, inserted_into, inserted_void_into}
-use Rattle.rules_table.specs.Actions.{is_of_text, is_text, keep_form, keep_head}
-use Rattle.rules_table.specs.Actions.{keep_pending, later_modes, mode_by_elements}
-use Rattle.rules_table.specs.Actions.{out_of_text, pop, pop_down_to, pop_if, pop_template_mode, pop_to}
-use Rattle.rules_table.specs.Actions.{push_template_mode, put_marker, reconstruct, refuse_frameset}
-use Rattle.rules_table.specs.Actions.{reset, say, set_quirks}
-use Rattle.rules_table.specs.Actions.{skip_next_line_feed, take_off, take_out, unlist, with_tree}
+use Rattle.rules_table.specs.Actions.{break_out, but_text, clear_to_marker, close_foreign, close_item, close_other}
+use Rattle.rules_table.specs.Actions.{close_p, comment_to_document, comment_to_root, forget_form, forget_pending}
+use Rattle.rules_table.specs.Actions.{foster, go_back, go_to, hold_mode, imply_but, in_html, insert, insert_comment}
+use Rattle.rules_table.specs.Actions.{insert_foreign, insert_formatting, insert_named, insert_void, inserted_into}
+use Rattle.rules_table.specs.Actions.{inserted_void_into, is_of_text, is_text, keep_form, keep_head, keep_pending}
+use Rattle.rules_table.specs.Actions.{later_modes, mode_by_elements, out_of_text, pop, pop_down_to, pop_if}
+use Rattle.rules_table.specs.Actions.{pop_template_mode, pop_to, push_template_mode, put_marker, reconstruct}
+use Rattle.rules_table.specs.Actions.{refuse_frameset, reset, say, set_quirks, skip_next_line_feed, take_off, take_out}
+use Rattle.rules_table.specs.Actions.{unlist, with_tree}
 use Rattle.rules_table.specs.State.{State}
 use Rattle.rules_table.specs.declared.target.Target.TheVariants as targets
 use Rattle.tree_predicates.specs.declared.modes.InsertionMode.{InsertionMode}

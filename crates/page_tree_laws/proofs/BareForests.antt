@@ -1,11 +1,11 @@
 -- A forest in front of the root, and what the root makes of it.
-use Rattle.std.proofs.Common.{◌≡◌, ℕ, ◌<◌, ◌≤◌, ◌&&◌, Bool, true, false, if◌then◌else◌, List, [], ◌∷◌, ◌++◌}
-use Rattle.std.proofs.Common.{None, Some, inl, inr, codes, refl, sym, ap, subst, ◌∙◌, arith}
+use Rattle.std.proofs.Common.{◌≡◌, ◌<◌, ◌≤◌, ◌&&◌, if◌then◌else◌, [], ◌∷◌, ◌++◌, ◌∙◌, Bool, List, None, Some, ap, arith}
+use Rattle.std.proofs.Common.{codes, false, inl, inr, refl, subst, sym, true, ℕ}
 use Rattle.tree_forest.specs.Changes.{changed, made}
-use Rattle.tree_forest.specs.Forest.{Forest, Holds, Kind, children_at, contents_of, document}
-use Rattle.tree_forest.specs.Forest.{element_of, kind_at, name_of, nodes}
+use Rattle.tree_forest.specs.Forest.{Forest, Holds, Kind, children_at, contents_of, document, element_of, kind_at}
+use Rattle.tree_forest.specs.Forest.{name_of, nodes}
 use Rattle.tree_forest.specs.Orders.{IsForest, IsParent, of_contents}
-use Rattle.tree_forest.specs.Places.{Place, behind, below, put_node}
+use Rattle.tree_forest.specs.Places.{Place, trailing, below, put_node}
 use Rattle.tree_forest.proofs.Nodes.{changed_has, children_made, kind_new, kept}
 use Rattle.html_tree_state.specs.Building.{Building}
 use Rattle.html_tree_state.specs.Insertions.{foster_place, here, holder, inside, place_for}
@@ -27,12 +27,12 @@ pub leaf_below : (kind : Kind) (f : Forest) → is_element kind ≡ false → (e
     child_elements 0 (put_node (below 0) (nodes f) (made kind f)) ≡ child_elements 0 f
 leaf_below kind f none plain within =
     let g = made kind f in
-    let h = changed 0 (behind (nodes f)) g in
-    let same : (n : ℕ) → kind_at n h ≡ kind_at n g = λ n. kept (λ x. x.kind) (behind (nodes f)) 0 n g (λ x. refl) in
+    let h = changed 0 (trailing (nodes f)) g in
+    let same : (n : ℕ) → kind_at n h ≡ kind_at n g = λ n. kept (λ x. x.kind) (trailing (nodes f)) 0 n g (λ x. refl) in
     let before : (ns : List ℕ) → elements_among h ns ≡ elements_among g ns = λ ns.
     elements_same g h ns (λ n i. ap is_element (same n)) in
     before (children_at 0 h) ∙ (changed_has (λ x. elements_among g x.children ≡ child_elements 0 f) 0 0
-    (behind (nodes f)) g (old kind f plain within)
+    (trailing (nodes f)) g (old kind f plain within)
     (λ e. elements_append g (children_at 0 g) (nodes f ∷ [])
     ∙ (ap (λ ns. ns ++ elements_among g (nodes f ∷ [])) (old kind f plain within)
     ∙ no_more g (nodes f) (child_elements 0 f) (ap is_element (kind_new kind f) ∙ none))))

@@ -1,33 +1,29 @@
 -- What a mark comes to before the root is made.
-use Rattle.std.proofs.Common.{◌≡◌, ℕ, Bool, true, false, if◌then◌else◌, List, [], ◌∷◌}
-use Rattle.std.proofs.Common.{codes, refl, sym, ap, subst, ◌∙◌}
-use Rattle.tree_forest.specs.Forest.{comment, doctype}
-use Rattle.tree_forest.specs.Forest.{nodes}
+use Rattle.std.proofs.Common.{◌≡◌, if◌then◌else◌, [], ◌∷◌, ◌∙◌, Bool, List, ap, codes, false, refl, subst, sym, true, ℕ}
+use Rattle.tree_forest.specs.Forest.{comment, doctype, nodes}
 use Rattle.tree_forest.specs.Orders.{IsForest}
 use Rattle.tree_forest.specs.Places.{below}
 use Rattle.html_lexemes.specs.declared.names.Attribute.{Attribute}
 use Rattle.html_lexemes.specs.declared.token.Doctype.{Doctype}
 use Rattle.html_lexemes.specs.declared.token.Tag.{Tag}
 use Rattle.html_tree_state.specs.Building.{Building}
-use Rattle.html_tree_state.specs.Insertions.{inserted, inserted_at}
-use Rattle.html_tree_state.specs.Insertions.{text_or_none, with_element}
+use Rattle.html_tree_state.specs.Insertions.{inserted, inserted_at, text_or_none, with_element}
 use Rattle.tree_names.specs.Sets.{is_html}
 use Rattle.page_tree_laws.proofs.EarlyPhases.{Comes}
 use Rattle.page_tree_laws.proofs.GroupNames.{html_named}
 use Rattle.page_tree_laws.proofs.Guards.{IsKeptForest}
-use Rattle.page_tree_laws.proofs.Phases.{IsBare, IsPhase, doctype_to_come}
-use Rattle.page_tree_laws.proofs.Phases.{head_to_come, root_guard, root_to_come}
+use Rattle.page_tree_laws.proofs.Phases.{IsBare, IsPhase, doctype_to_come, head_to_come, root_guard, root_to_come}
 use Rattle.page_tree_laws.proofs.Planting.{IsPlanted, forest_within, planted}
 use Rattle.page_tree_laws.specs.Skeleton.{child_elements}
 use Rattle.tree_names.specs.Groups.{tag_group}
 use Rattle.tree_names.specs.declared.group.TagGroup.{TagGroup}
 use Rattle.tree_names.specs.declared.group.TagGroup.TheVariants as groups
-use Rattle.rules_table.specs.Actions.{act, act_all, append_doctype, at_place, comment_to_document, go_to}
-use Rattle.rules_table.specs.Actions.{in_html, insert, set_quirks}
+use Rattle.rules_table.specs.Actions.{act, act_all, append_doctype, at_place, comment_to_document, go_to, in_html}
+use Rattle.rules_table.specs.Actions.{insert, set_quirks}
 use Rattle.rules_table.specs.BeforeHtml.{before_html_end, before_html_start, before_html_text, html_made}
 use Rattle.rules_table.specs.Initial.{initial_text, without_doctype}
 use Rattle.rules_table.specs.Rows.{done, for_character, is_white_space}
-use Rattle.rules_table.specs.State.{Mark, State, character, end_of_file, finish, null, start}
+use Rattle.rules_table.specs.State.{TreeToken, State, character, end_of_file, finish, null, start}
 use Rattle.rules_table.specs.State as marks
 use Rattle.rules_table.specs.Table.{row}
 use Rattle.tree_predicates.specs.Attributes.{is_html_annotation}
@@ -92,7 +88,7 @@ module _ (is_framed : Bool) where
       refl
       refl (forest_within s.tree.forest is)) refl refl refl refl refl)
 
-  pub initial_row : (mark : Mark) (s : State) → IsForest s.tree.forest → s.mode ≡ modes.Initial → IsBare s →
+  pub initial_row : (mark : TreeToken) (s : State) → IsForest s.tree.forest → s.mode ≡ modes.Initial → IsBare s →
       Comes is_framed s (row modes.Initial mark s)
   initial_row (character c) s is m bare = first_text (is_white_space c) c s m bare
   initial_row null s is m bare = no_doctype s bare
@@ -159,7 +155,7 @@ module _ (is_framed : Bool) where
   root_end groups.LineBreak s is m bare = html_comes s is bare
   root_end group s is m bare = root_to_come m bare
 
-  pub before_html_row : (mark : Mark) (s : State) → IsForest s.tree.forest → s.mode ≡ modes.BeforeHtml → IsBare s →
+  pub before_html_row : (mark : TreeToken) (s : State) → IsForest s.tree.forest → s.mode ≡ modes.BeforeHtml → IsBare s →
       Comes is_framed s (row modes.BeforeHtml mark s)
   before_html_row (character c) s is m bare = root_text (is_white_space c) c s is m bare
   before_html_row null s is m bare = html_comes s is bare

@@ -1,7 +1,7 @@
 -- The names of what stands lowest on a stack, among the sets of names: they are special, their end tags are not
 -- implied, and what walks down foreign elements ends at them.
-use Rattle.std.proofs.Common.{◌≡◌, ℕ, Bool, true, false, ◌||◌, ◌&&◌, not, List, [], ◌∷◌, codes, bytes_eq}
-use Rattle.std.proofs.Common.{refl, sym, ap, subst, ◌∙◌}
+use Rattle.std.proofs.Common.{◌≡◌, ◌||◌, ◌&&◌, [], ◌∷◌, ◌∙◌, Bool, List, ap, bytes_eq, codes, false, not, refl, subst}
+use Rattle.std.proofs.Common.{sym, true, ℕ}
 use Rattle.std.proofs.lemmas.Slice.Eq.{bytes_eq-Decides}
 use Rattle.tree_forest.specs.Forest.{Forest, name_of}
 use Rattle.html_lexemes.specs.declared.names.Namespace.{Namespace}

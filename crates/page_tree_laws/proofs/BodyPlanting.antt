@@ -1,6 +1,6 @@
 -- The body, or a frameset, is put after the head.
-use Rattle.std.proofs.Common.{◌≡◌, ℕ, ◌<◌, ◌≤◌, inl, inr, Bool, false, List, [], ◌∷◌, ◌++◌, Some, codes}
-use Rattle.std.proofs.Common.{refl, sym, ap, subst, ◌∙◌, arith}
+use Rattle.std.proofs.Common.{◌≡◌, ◌<◌, ◌≤◌, [], ◌∷◌, ◌++◌, ◌∙◌, Bool, List, Some, ap, arith, codes, false, inl, inr}
+use Rattle.std.proofs.Common.{refl, subst, sym, ℕ}
 use Rattle.tree_forest.specs.Forest.{Forest, Holds, name_of, nodes}
 use Rattle.tree_forest.specs.Orders.{IsIn}
 use Rattle.tree_forest.specs.Places.{below}
@@ -12,8 +12,7 @@ use Rattle.page_tree_laws.proofs.EarlySteps.{here_below}
 use Rattle.page_tree_laws.proofs.Forms.{IsFormed}
 use Rattle.page_tree_laws.proofs.GuardKinds.{AreApart, document_title, head_title, root_title, third_title, titled_head}
 use Rattle.page_tree_laws.proofs.GuardKinds.{titles}
-use Rattle.page_tree_laws.proofs.Guards.{Guard, IsFree, IsGuarded, IsKept, IsKeptForest, IsStack}
-use Rattle.page_tree_laws.proofs.Guards.{is_barred, stands}
+use Rattle.page_tree_laws.proofs.Guards.{Guard, IsFree, IsGuarded, IsKept, IsKeptForest, IsStack, is_barred, stands}
 use Rattle.page_tree_laws.proofs.Phases.{IsEarly, head_guard}
 use Rattle.page_tree_laws.proofs.Planting.{IsPlanted, planted}
 use Rattle.rules_table.specs.Actions.{in_html}

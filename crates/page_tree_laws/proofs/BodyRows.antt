@@ -1,6 +1,6 @@
 -- What a mark comes to where the body may still give way to a frameset.
-use Rattle.std.proofs.Common.{◌≡◌, ℕ, inl, inr, Bool, true, false, if◌then◌else◌, List, [], ◌∷◌, None, Some}
-use Rattle.std.proofs.Common.{codes, refl, sym, ap, subst, ◌∙◌}
+use Rattle.std.proofs.Common.{◌≡◌, if◌then◌else◌, [], ◌∷◌, ◌∙◌, Bool, List, None, Some, ap, codes, false, inl, inr}
+use Rattle.std.proofs.Common.{refl, subst, sym, true, ℕ}
 use Rattle.html_lexemes.specs.declared.token.Tag.{Tag}
 use Rattle.tree_names.specs.Sets.{is_html}
 use Rattle.tree_names.specs.Wanted.{one}
@@ -8,7 +8,7 @@ use Rattle.tree_forest.specs.Forest.{name_of}
 use Rattle.page_tree_laws.proofs.Acting.{ResetsWell, act_held}
 use Rattle.page_tree_laws.proofs.BodyWeakened.{early_again, going_held, opened_second}
 use Rattle.page_tree_laws.proofs.BuiltRules.{Leads, rule_comes}
-use Rattle.page_tree_laws.proofs.EarlyModes.{IsToldGroup, IsToldMark}
+use Rattle.page_tree_laws.proofs.EarlyModes.{IsEmittedGroup, IsEmittedMark}
 use Rattle.page_tree_laws.proofs.EarlyPhases.{ComesTo, comes_to_if}
 use Rattle.page_tree_laws.proofs.Fits.{CanGoOn, Closes, ClosesTemplate, FitAll, FitsRow, IsHeld}
 use Rattle.page_tree_laws.proofs.FittingEnds.{body_end_fits}
@@ -17,8 +17,8 @@ use Rattle.page_tree_laws.proofs.FittingStarts.{body_start_fits}
 use Rattle.page_tree_laws.proofs.FittingSteps.{RowFacts, TopFacts, group_unbarred, word_unbarred}
 use Rattle.page_tree_laws.proofs.Forms.{IsFormed, act_formed, all_formed}
 use Rattle.page_tree_laws.proofs.FreeElements.{open_has_free}
-use Rattle.page_tree_laws.proofs.GoingRows.{broken_mode, going, going_is, going_reset}
-use Rattle.page_tree_laws.proofs.GoingRows.{going_rows, only_text, stack_facts}
+use Rattle.page_tree_laws.proofs.GoingRows.{broken_mode, going, going_is, going_reset, going_rows, only_text}
+use Rattle.page_tree_laws.proofs.GoingRows.{stack_facts}
 use Rattle.page_tree_laws.proofs.GroupNames.{element_passes, template_named}
 use Rattle.page_tree_laws.proofs.GuardKinds.{AreApart, body_guard, body_guards, is_of_body, root_title, third_title}
 use Rattle.page_tree_laws.proofs.GuardModes.{body_resets}
@@ -39,7 +39,7 @@ use Rattle.rules_table.specs.InBodyBlocks.{frameset_start, in_place_of_body, tab
 use Rattle.rules_table.specs.InHead.{in_head_start}
 use Rattle.rules_table.specs.Rows.{Row, again, asks, done, ignored}
 use Rattle.rules_table.specs.Rule.{rule}
-use Rattle.rules_table.specs.State.{Mark, State, character, comment, doctype, end_of_file, finish, null, start}
+use Rattle.rules_table.specs.State.{TreeToken, State, character, comment, doctype, end_of_file, finish, null, start}
 use Rattle.rules_table.specs.Table.{row}
 use Rattle.tree_predicates.specs.declared.modes.InsertionMode.{InsertionMode}
 use Rattle.tree_predicates.specs.declared.modes.InsertionMode.TheVariants as modes
@@ -149,71 +149,71 @@ module _ (is_framed : Bool) (root head body : ℕ) (apart : AreApart root head b
   frameset_planted : ActionsKeep → (t : Tag) (s : State) → tag_group t.name ≡ groups.Frameset → is_framed ≡ true →
       IsHeld (body_guard root head body) s → Ready s → IsFormed s →
       ComesTo (IsBuilt is_framed) s (in_place_of_body (body_of s) t)
-  frameset_planted keep t s named told held ready formed = subst
+  frameset_planted keep t s named emitted held ready formed = subst
       (λ found. ComesTo (IsBuilt is_framed) s (in_place_of_body found t)) (sym (body_found s held))
       (let cleared : List Action = take_out body ∷ pop_down_to (one (codes "html")) ∷ [] in
       let early = early_again root head body apart s held in
-      let behind = all_formed keep cleared s ready formed in
-      frameset_built is_framed root head t (act_all cleared s) named told early.0 behind.0.page behind.1 early.1)
+      let trailing = all_formed keep cleared s ready formed in
+      frameset_built is_framed root head t (act_all cleared s) named emitted early.0 trailing.0.page trailing.1 early.1)
 
   frameset_start_comes : ActionsKeep → (t : Tag) (s : State) → tag_group t.name ≡ groups.Frameset →
       is_framed ≡ true → IsHeld (body_guard root head body) s → is_text s.mode ≡ false → Ready s → IsFormed s →
       ComesTo (IsBuilt is_framed) s (frameset_start t s)
-  frameset_start_comes keep t s named told held off ready formed = comes_to_if s.frameset_ok (IsBuilt is_framed) s
+  frameset_start_comes keep t s named emitted held off ready formed = comes_to_if s.frameset_ok (IsBuilt is_framed) s
       (in_place_of_body (body_of s) t) ignored
-      (λ e. frameset_planted keep t s named told held ready formed) (λ e. fits ignored s tt held off)
+      (λ e. frameset_planted keep t s named emitted held ready formed) (λ e. fits ignored s tt held off)
 
   -- the mode "in body"
   body_start : ActionsKeep → (group : TagGroup) (t : Tag) (s : State) → tag_group t.name ≡ group →
-      IsToldGroup is_framed group → IsHeld (body_guard root head body) s → is_text s.mode ≡ false → Ready s →
+      IsEmittedGroup is_framed group → IsHeld (body_guard root head body) s → is_text s.mode ≡ false → Ready s →
       IsFormed s → ComesTo (IsBuilt is_framed) s (in_body_start group t s)
-  body_start keep groups.Table t s named told held off ready formed = table_comes t s named held off
-  body_start keep groups.Template t s named told held off ready formed = template_comes t s named held off
-  body_start keep groups.Frameset t s named told held off ready formed =
-      frameset_start_comes keep t s named told held off ready formed
-  body_start keep group t s named told held off ready formed = fits (in_body_start group t s) s
+  body_start keep groups.Table t s named emitted held off ready formed = table_comes t s named held off
+  body_start keep groups.Template t s named emitted held off ready formed = template_comes t s named held off
+  body_start keep groups.Frameset t s named emitted held off ready formed =
+      frameset_start_comes keep t s named emitted held off ready formed
+  body_start keep group t s named emitted held off ready formed = fits (in_body_start group t s) s
       (body_start_fits (body_guard root head body) own_rows group t s named (can s held) tt) held off
 
-  body_mark : ActionsKeep → (mark : Mark) (s : State) → IsToldMark is_framed mark →
+  body_mark : ActionsKeep → (mark : TreeToken) (s : State) → IsEmittedMark is_framed mark →
       IsHeld (body_guard root head body) s → is_text s.mode ≡ false → Ready s → IsFormed s →
       ComesTo (IsBuilt is_framed) s (row modes.InBody mark s)
-  body_mark keep (start t) s told held off ready formed =
-      body_start keep (tag_group t.name) t s refl told held off ready formed
-  body_mark keep (character c) s told held off ready formed = fits (row modes.InBody (character c) s) s
+  body_mark keep (start t) s emitted held off ready formed =
+      body_start keep (tag_group t.name) t s refl emitted held off ready formed
+  body_mark keep (character c) s emitted held off ready formed = fits (row modes.InBody (character c) s) s
       (in_body_row (body_guard root head body) own_rows own_top (character c) s (can s held) tt tt) held off
-  body_mark keep null s told held off ready formed = fits (row modes.InBody null s) s tt held off
-  body_mark keep (comment cs) s told held off ready formed = fits (row modes.InBody (comment cs) s) s (tt, tt) held off
-  body_mark keep (doctype d) s told held off ready formed = fits (row modes.InBody (doctype d) s) s tt held off
-  body_mark keep (finish t) s told held off ready formed = fits (row modes.InBody (finish t) s) s
+  body_mark keep null s emitted held off ready formed = fits (row modes.InBody null s) s tt held off
+  body_mark keep (comment cs) s emitted held off ready formed = fits (row modes.InBody (comment cs) s) s (tt, tt) held off
+  body_mark keep (doctype d) s emitted held off ready formed = fits (row modes.InBody (doctype d) s) s tt held off
+  body_mark keep (finish t) s emitted held off ready formed = fits (row modes.InBody (finish t) s) s
       (body_end_fits (body_guard root head body) own_rows own_top (tag_group t.name) t s refl (can s held)
       (closes (tag_group t.name) s held)) held off
-  body_mark keep end_of_file s told held off ready formed = fits (row modes.InBody end_of_file s) s
+  body_mark keep end_of_file s emitted held off ready formed = fits (row modes.InBody end_of_file s) s
       (in_body_row (body_guard root head body) own_rows own_top end_of_file s (can s held) tt (closes_none s held)) held
       off
 
-  body_mode : ActionsKeep → (m : InsertionMode) (mark : Mark) (s : State) → is_of_body m ≡ true →
-      IsToldMark is_framed mark → IsHeld (body_guard root head body) s → is_text s.mode ≡ false → Ready s →
+  body_mode : ActionsKeep → (m : InsertionMode) (mark : TreeToken) (s : State) → is_of_body m ≡ true →
+      IsEmittedMark is_framed mark → IsHeld (body_guard root head body) s → is_text s.mode ≡ false → Ready s →
       IsFormed s → ComesTo (IsBuilt is_framed) s (row m mark s)
-  body_mode keep modes.InBody mark s is told held off ready formed = body_mark keep mark s told held off ready formed
-  body_mode keep modes.AfterBody mark s is told held off ready formed = fits (row modes.AfterBody mark s) s
+  body_mode keep modes.InBody mark s is emitted held off ready formed = body_mark keep mark s emitted held off ready formed
+  body_mode keep modes.AfterBody mark s is emitted held off ready formed = fits (row modes.AfterBody mark s) s
       (after_body_row (body_guard root head body) mark s (can s held) refl) held off
-  body_mode keep modes.AfterAfterBody mark s is told held off ready formed = fits (row modes.AfterAfterBody mark s) s
+  body_mode keep modes.AfterAfterBody mark s is emitted held off ready formed = fits (row modes.AfterAfterBody mark s) s
       (after_after_body_row (body_guard root head body) mark s (can s held)) held off
-  body_mode keep m mark s is told held off ready formed = none is
+  body_mode keep m mark s is emitted held off ready formed = none is
 
   leads : (s : State) → IsHeld (body_guard root head body) s → is_text s.mode ≡ false →
       Leads (IsBuilt is_framed) (body_guard root head body) s
   leads s held off actions even fit = (body_open root head body apart
       (all_steady (body_guard root head body) own_is own_reset actions s fit held off))
 
-  pub body_rule : ActionsKeep → (mark : Mark) (s : State) → IsToldMark is_framed mark →
+  pub body_rule : ActionsKeep → (mark : TreeToken) (s : State) → IsEmittedMark is_framed mark →
       IsSteady (body_guard root head body) s → Ready s → IsFormed s → ComesTo (IsBuilt is_framed) s (rule mark s)
-  body_rule keep mark s told steady ready formed = by (is_text s.mode) refl where
+  body_rule keep mark s emitted steady ready formed = by (is_text s.mode) refl where
     by : (b : Bool) → is_text s.mode ≡ b → ComesTo (IsBuilt is_framed) s (rule mark s)
     by true e = text_rule (body_guard root head body) own_is own_reset s (only_text s.mode e) steady (IsBuilt is_framed)
         (λ actions even now. (body_open root head body apart now)) mark
     by false off = rule_comes (IsBuilt is_framed) (body_guard root head body) mark s (leads s steady.held off)
-        (body_mode keep s.mode mark s (steady.held.mode off) told steady.held off ready formed)
-        (body_mode keep s.mode mark (act break_out s) (steady.held.mode off) told
+        (body_mode keep s.mode mark s (steady.held.mode off) emitted steady.held off ready formed)
+        (body_mode keep s.mode mark (act break_out s) (steady.held.mode off) emitted
         (act_held (body_guard root head body) own_is own_reset break_out s tt steady.held)
         (ap is_text (broken_mode s) ∙ off) (keep break_out s ready) (act_formed keep break_out s ready formed))

@@ -1,9 +1,8 @@
 -- A body that may still give way to a frameset is one after which elements may follow; and where it gives way, the
 -- body is to
 -- come again.
-use Rattle.std.proofs.Common.{◌≡◌, ℕ, ◌<◌, ◌==◌, ◌||◌, inl, inr, Bool, true, false, if◌then◌else◌, List, []}
-use Rattle.std.proofs.Common.{◌∷◌, ◌++◌, None, Some, codes, bytes_eq, refl, sym, ap, subst, ◌∙◌, eqb-true}
-use Rattle.std.proofs.Common.{eq-eqb, arith}
+use Rattle.std.proofs.Common.{◌≡◌, ◌<◌, ◌==◌, ◌||◌, if◌then◌else◌, [], ◌∷◌, ◌++◌, ◌∙◌, Bool, List, None, Some, ap}
+use Rattle.std.proofs.Common.{arith, bytes_eq, codes, eq-eqb, eqb-true, false, inl, inr, refl, subst, sym, true, ℕ}
 use Rattle.tree_forest.specs.Changes.{detached, left_out, without_child}
 use Rattle.tree_forest.specs.Forest.{Forest, Holds, children_at, element_of, kind_at, name_of, nodes}
 use Rattle.tree_forest.specs.Orders.{IsIn}
@@ -22,8 +21,8 @@ use Rattle.page_tree_laws.proofs.GroupNames.{element_passes}
 use Rattle.page_tree_laws.proofs.GuardKinds.{AreApart, body_guard, body_stands, document_title, early_names, head_title}
 use Rattle.page_tree_laws.proofs.GuardKinds.{root_title, third_title, titled_head}
 use Rattle.page_tree_laws.proofs.GuardedForests.{children_mapped}
-use Rattle.page_tree_laws.proofs.Guards.{AreUnbarred, IsFree, IsKept, IsKeptForest, IsStack}
-use Rattle.page_tree_laws.proofs.Guards.{bare, base_names, nearer, stands}
+use Rattle.page_tree_laws.proofs.Guards.{AreUnbarred, IsFree, IsKept, IsKeptForest, IsStack, bare, base_names, nearer}
+use Rattle.page_tree_laws.proofs.Guards.{stands}
 use Rattle.page_tree_laws.proofs.Phases.{IsEarly, head_guard}
 use Rattle.page_tree_laws.specs.Skeleton.{child_elements, elements_among, is_element}
 use Rattle.rules_table.specs.Actions.{act, act_all, out_of_text, pop_down_to, take_out}

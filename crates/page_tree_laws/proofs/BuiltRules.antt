@@ -9,14 +9,13 @@ use Rattle.page_tree_laws.proofs.EvenRules.{inserted_even}
 use Rattle.page_tree_laws.proofs.Fits.{FitAll}
 use Rattle.page_tree_laws.proofs.FittingRules.{inserted_foreign}
 use Rattle.page_tree_laws.proofs.Guards.{Guard}
-use Rattle.rules_table.specs.Actions.{Action, act, act_all, break_out, close_foreign, insert_comment}
-use Rattle.rules_table.specs.Actions.{insert_foreign, is_text}
-use Rattle.rules_table.specs.Actions.{refuse_frameset, say}
+use Rattle.rules_table.specs.Actions.{Action, act, act_all, break_out, close_foreign, insert_comment, insert_foreign}
+use Rattle.rules_table.specs.Actions.{is_text, refuse_frameset, say}
 use Rattle.rules_table.specs.ForeignContent.{foreign_start, foreign_text, is_by_mode, is_taken_at, namespace_at}
 use Rattle.rules_table.specs.ForeignContent.{node_here}
 use Rattle.rules_table.specs.Rows.{Row, after, again, asks, done, for_character, is_white_space}
 use Rattle.rules_table.specs.Rule.{broken_out_row, foreign_end, foreign_row, rule}
-use Rattle.rules_table.specs.State.{Mark, State, character, comment, doctype, end_of_file, finish, null, start}
+use Rattle.rules_table.specs.State.{TreeToken, State, character, comment, doctype, end_of_file, finish, null, start}
 use Rattle.rules_table.specs.Table.{row}
 use Rattle.tree_predicates.specs.Foreign.{breaks_out}
 
@@ -35,7 +34,7 @@ foreign_said : (P : State → Type 0) (is_space : Bool) (g : Guard) (c : ℕ) (s
 foreign_said P true g c s leads = leads (say (c ∷ []) ∷ []) (tt, tt) (tt, tt)
 foreign_said P false g c s leads = leads (refuse_frameset ∷ say (c ∷ []) ∷ []) (tt, (tt, tt)) (tt, (tt, tt))
 
-foreign_comes : (P : State → Type 0) (g : Guard) (mark : Mark) (s : State) → is_by_mode mark s ≡ false →
+foreign_comes : (P : State → Type 0) (g : Guard) (mark : TreeToken) (s : State) → is_by_mode mark s ≡ false →
     Leads P g s → ComesTo P s (row s.mode mark s) →
     ComesTo P (act break_out s) (row s.mode mark (act break_out s)) → ComesTo P s (foreign_row mark s)
 foreign_comes P g (character c) s off leads here out = foreign_said P (is_white_space c) g c s leads
@@ -56,7 +55,7 @@ foreign_comes P g (finish t) s off leads here out = comes_to_if (breaks_out t) P
     (λ k. here))
 foreign_comes P g end_of_file s off leads here out = here
 
-pub rule_comes : (P : State → Type 0) (g : Guard) (mark : Mark) (s : State) → Leads P g s →
+pub rule_comes : (P : State → Type 0) (g : Guard) (mark : TreeToken) (s : State) → Leads P g s →
     ComesTo P s (row s.mode mark s) →
     ComesTo P (act break_out s) (row s.mode mark (act break_out s)) → ComesTo P s (rule mark s)
 rule_comes P g mark s leads here out = comes_to_if (is_by_mode mark s) P s (row s.mode mark s)
@@ -72,12 +71,12 @@ or_true : (x y : Bool) → x ≡ true → (x || y) ≡ true
 or_true true y e = refl
 or_true false y e = absurd (let k : false ≡ true = e in cc)
 
-pub mode_takes : (P : State → Type 0) (mark : Mark) (s : State) → is_by_mode mark s ≡ true →
+pub mode_takes : (P : State → Type 0) (mark : TreeToken) (s : State) → is_by_mode mark s ≡ true →
     ComesTo P s (row s.mode mark s) → ComesTo P s (rule mark s)
 mode_takes P mark s by comes =
     by_true P (is_by_mode mark s) s (row s.mode mark s) (foreign_row mark s) by comes
 
-pub text_takes : (P : State → Type 0) (mark : Mark) (s : State) → is_text s.mode ≡ true →
+pub text_takes : (P : State → Type 0) (mark : TreeToken) (s : State) → is_text s.mode ≡ true →
     ComesTo P s (row s.mode mark s) → ComesTo P s (rule mark s)
 text_takes P mark s e comes = mode_takes P mark s
     (or_true (is_text s.mode) (is_taken_at mark s.tree.forest (node_here s)) e) comes

@@ -1,9 +1,8 @@
 -- Popping, closing and the adoption agency keep the texts of a tree, and its open elements clean.
-use Rattle.std.proofs.Common.{◌≡◌, ℕ, zero, suc, ◌⊎◌, inl, inr, Bool, true, false, if◌then◌else◌, List, [], ◌∷◌, Option}
-use Rattle.std.proofs.Common.{None}
-use Rattle.std.proofs.Common.{Some, codes, refl, sym, ap, subst, ◌∙◌, not}
+use Rattle.std.proofs.Common.{◌≡◌, ◌⊎◌, if◌then◌else◌, [], ◌∷◌, ◌∙◌, Bool, List, None, Option, Some, ap, codes, false}
+use Rattle.std.proofs.Common.{inl, inr, not, refl, subst, suc, sym, true, zero, ℕ}
 use Rattle.std.specs.Bool.{nat_lt}
-use Rattle.tree_formatting.specs.Entries.{Entry, handed_over, is_listed, last_named, moved_behind, tag_in, up_to_marker}
+use Rattle.tree_formatting.specs.Entries.{Entry, handed_over, is_listed, last_named, moved_after, tag_in, up_to_marker}
 use Rattle.tree_formatting.specs.Entries.{without_entry}
 use Rattle.tree_forest.specs.Changes.{detached, left_out, reparented}
 use Rattle.tree_forest.specs.Forest.{Forest, Holds, is_in, name_of, nodes}
@@ -30,10 +29,11 @@ use Rattle.tree_names.specs.Sets.{Elements, is_html, is_one_of}
 use Rattle.tree_names.specs.TagSets.{formatting}
 use Rattle.tree_names.specs.Wanted.{one}
 use Rattle.tree_predicates.specs.Attributes.{is_html_annotation}
-use Rattle.page_tree_laws.proofs.CleanLists.{AreFormatting, AreLeftOr, below_current_left, below_first_left, farther_left}
-use Rattle.page_tree_laws.proofs.CleanLists.{formatting_by, formatting_free, from_first_left, from_html_left}
-use Rattle.page_tree_laws.proofs.CleanLists.{handed_formatting, is_barred, left_out_left, moved_formatting, put_before_left}
-use Rattle.page_tree_laws.proofs.CleanLists.{replaced_left, tag_formatting, without_formatting, without_implied_left}
+use Rattle.page_tree_laws.proofs.CleanLists.{AreFormatting, AreLeftOr, below_current_left, below_first_left}
+use Rattle.page_tree_laws.proofs.CleanLists.{farther_left, formatting_by, formatting_free, from_first_left}
+use Rattle.page_tree_laws.proofs.CleanLists.{from_html_left, handed_formatting, is_barred, left_out_left}
+use Rattle.page_tree_laws.proofs.CleanLists.{moved_formatting, put_before_left, replaced_left, tag_formatting}
+use Rattle.page_tree_laws.proofs.CleanLists.{without_formatting, without_implied_left}
 use Rattle.page_tree_laws.proofs.CleanWords.{AreFree, IsCarried, IsClean, carried_if, carried_itself, carried_on}
 use Rattle.page_tree_laws.proofs.CleanWords.{forest_carried, free_left, free_on, list_carried, popped_carried}
 use Rattle.page_tree_laws.proofs.ForestTexts.{IsNew, detached_follows, element_new, follows_on, new_then, put_follows}
@@ -163,7 +163,7 @@ entries_at_formatting : (bookmark : Option ℕ) (n copy : ℕ) (es : List Entry)
     AreFormatting (entries_at bookmark n copy es)
 entries_at_formatting None n copy es are = handed_formatting n copy es are
 entries_at_formatting (Some after) n copy es are =
-    formatting_by (is_listed after (up_to_marker (without_entry n es))) (moved_behind n copy after es)
+    formatting_by (is_listed after (up_to_marker (without_entry n es))) (moved_after n copy after es)
     (handed_over n copy es) (moved_formatting n copy after es are) (handed_formatting n copy es are)
 
 taken_over_carried : (bookmark : Option ℕ) (n block : ℕ) (tag : Tag) (b : Building) →

@@ -1,12 +1,12 @@
 -- Names that are barred from the stack of open elements: `template`, `frameset` and `colgroup` of HTML. Formatting
 -- elements have other names; and which elements are left on a stack, and which tags in a list of formatting elements.
-use Rattle.std.proofs.Common.{◌≡◌, ℕ, ◌⊎◌, inl, inr, ◌==◌, ◌||◌, Bool, true, false, if◌then◌else◌, List, [], ◌∷◌}
-use Rattle.std.proofs.Common.{Option, None, Some, codes, bytes_eq, refl, sym, subst}
+use Rattle.std.proofs.Common.{◌≡◌, ◌⊎◌, ◌==◌, ◌||◌, if◌then◌else◌, [], ◌∷◌, Bool, List, None, Option, Some, bytes_eq}
+use Rattle.std.proofs.Common.{codes, false, inl, inr, refl, subst, sym, true, ℕ}
 use Rattle.std.proofs.lemmas.Slice.Eq.{bytes_eq-Decides}
 use Rattle.std.specs.Bool.{nat_lt}
 use Rattle.tree_formatting.specs.Alike.{count_alike}
-use Rattle.tree_formatting.specs.Entries.{Entry, before_marker, formatted, given_to, handed_over, is_of}
-use Rattle.tree_formatting.specs.Entries.{marker, moved_behind, put_behind, tag_if, tag_in, up_to_marker, without_entry}
+use Rattle.tree_formatting.specs.Entries.{Entry, before_marker, formatted, given_to, handed_over, is_of, marker}
+use Rattle.tree_formatting.specs.Entries.{moved_after, put_after, tag_if, tag_in, up_to_marker, without_entry}
 use Rattle.tree_formatting.specs.Pushing.{pushed, without_earliest}
 use Rattle.tree_forest.specs.Changes.{left_out}
 use Rattle.tree_forest.specs.Forest.{Forest, is_integration_point, name_of}
@@ -156,9 +156,9 @@ listed_formatting f (marker ∷ rest) listed = listed_formatting f rest listed
 listed_formatting f (formatted n tag ∷ rest) listed =
     ((listed n tag (inl (refl, refl))).kind, listed_formatting f rest (λ m held i. listed m held (inr i)))
 
-pub behind_entry : (entry : Entry) (rest : List Entry) → AreFormatting (entry ∷ rest) → AreFormatting rest
-behind_entry marker rest are = are
-behind_entry (formatted n tag) rest are = are.1
+pub after_entry : (entry : Entry) (rest : List Entry) → AreFormatting (entry ∷ rest) → AreFormatting rest
+after_entry marker rest are = are
+after_entry (formatted n tag) rest are = are.1
 
 -- an entry and others after it
 entry_on : (entry : Entry) (rest more : List Entry) → AreFormatting (entry ∷ rest) → AreFormatting more →
@@ -179,8 +179,8 @@ before_marker_formatting (formatted n tag ∷ rest) are = before_marker_formatti
 pub without_formatting : (n : ℕ) (es : List Entry) → AreFormatting es → AreFormatting (without_entry n es)
 without_formatting n [] are = are
 without_formatting n (e ∷ rest) are = formatting_by (is_of n e) rest (e ∷ without_entry n rest)
-    (behind_entry e rest are)
-    (entry_on e rest (without_entry n rest) are (without_formatting n rest (behind_entry e rest are)))
+    (after_entry e rest are)
+    (entry_on e rest (without_entry n rest) are (without_formatting n rest (after_entry e rest are)))
 
 given_formatting : (m : ℕ) (e : Entry) (rest : List Entry) → AreFormatting (e ∷ rest) →
     AreFormatting (given_to m e ∷ rest)
@@ -191,15 +191,15 @@ pub handed_formatting : (n m : ℕ) (es : List Entry) → AreFormatting es → A
 handed_formatting n m [] are = are
 handed_formatting n m (e ∷ rest) are = formatting_by (is_of n e) (given_to m e ∷ rest) (e ∷ handed_over n m rest)
     (given_formatting m e rest are)
-    (entry_on e rest (handed_over n m rest) are (handed_formatting n m rest (behind_entry e rest are)))
+    (entry_on e rest (handed_over n m rest) are (handed_formatting n m rest (after_entry e rest are)))
 
-put_behind_formatting : (n m : ℕ) (tag : Tag) (es : List Entry) → is_one_of formatting tag.name ≡ true →
-    AreFormatting es → AreFormatting (put_behind n (formatted m tag) es)
-put_behind_formatting n m tag [] is are = (is, tt)
-put_behind_formatting n m tag (e ∷ rest) is are =
-    formatting_by (is_of n e) (formatted m tag ∷ e ∷ rest) (e ∷ put_behind n (formatted m tag) rest) (is, are)
-    (entry_on e rest (put_behind n (formatted m tag) rest) are
-    (put_behind_formatting n m tag rest is (behind_entry e rest are)))
+put_after_formatting : (n m : ℕ) (tag : Tag) (es : List Entry) → is_one_of formatting tag.name ≡ true →
+    AreFormatting es → AreFormatting (put_after n (formatted m tag) es)
+put_after_formatting n m tag [] is are = (is, tt)
+put_after_formatting n m tag (e ∷ rest) is are =
+    formatting_by (is_of n e) (formatted m tag ∷ e ∷ rest) (e ∷ put_after n (formatted m tag) rest) (is, are)
+    (entry_on e rest (put_after n (formatted m tag) rest) are
+    (put_after_formatting n m tag rest is (after_entry e rest are)))
 
 -- the tag that an element is listed with
 tag_by : (b : Bool) (e : Entry) (rest : List Entry) (tag : Tag) (later : Option Tag) → AreFormatting (e ∷ rest) →
@@ -214,24 +214,24 @@ pub tag_formatting : (n : ℕ) (es : List Entry) (tag : Tag) → AreFormatting e
     is_one_of formatting tag.name ≡ true
 tag_formatting n [] tag are e = absurd (let k : None ≡ Some tag = e in cc)
 tag_formatting n (entry ∷ rest) tag are e = tag_by (is_of n entry) entry rest tag (tag_in n rest) are
-    (tag_formatting n rest tag (behind_entry entry rest are)) e
+    (tag_formatting n rest tag (after_entry entry rest are)) e
 
-moved_none : (n m after : ℕ) (es : List Entry) → tag_in n es ≡ None → moved_behind n m after es ≡ es
+moved_none : (n m after : ℕ) (es : List Entry) → tag_in n es ≡ None → moved_after n m after es ≡ es
 moved_none n m after es e = rw e
 
 moved_some : (n m after : ℕ) (tag : Tag) (es : List Entry) → tag_in n es ≡ Some tag →
-    moved_behind n m after es ≡ put_behind after (formatted m tag) (without_entry n es)
+    moved_after n m after es ≡ put_after after (formatted m tag) (without_entry n es)
 moved_some n m after tag es e = rw e
 
 moved_by : (n m after : ℕ) (es : List Entry) (found : Option Tag) → tag_in n es ≡ found → AreFormatting es →
-    AreFormatting (moved_behind n m after es)
+    AreFormatting (moved_after n m after es)
 moved_by n m after es None e are = subst AreFormatting (sym (moved_none n m after es e)) are
 moved_by n m after es (Some tag) e are = subst AreFormatting (sym (moved_some n m after tag es e))
-    (put_behind_formatting after m tag (without_entry n es) (tag_formatting n es tag are e)
+    (put_after_formatting after m tag (without_entry n es) (tag_formatting n es tag are e)
     (without_formatting n es are))
 
 pub moved_formatting : (n m after : ℕ) (es : List Entry) → AreFormatting es →
-    AreFormatting (moved_behind n m after es)
+    AreFormatting (moved_after n m after es)
 moved_formatting n m after es are = moved_by n m after es (tag_in n es) refl are
 
 earliest_formatting : (tag : Tag) (es : List Entry) → AreFormatting es → AreFormatting (without_earliest tag es)
@@ -252,10 +252,10 @@ pushed_formatting n tag es is are = (
 pub to_make_formatting : (stack : List ℕ) (es : List Entry) → AreFormatting es → AreFormatting (to_make stack es)
 to_make_formatting stack [] are = are
 to_make_formatting stack (e ∷ rest) are = formatting_by (is_kept stack e) [] (e ∷ to_make stack rest) tt
-    (entry_on e rest (to_make stack rest) are (to_make_formatting stack rest (behind_entry e rest are)))
+    (entry_on e rest (to_make stack rest) are (to_make_formatting stack rest (after_entry e rest are)))
 
 pub already_formatting : (stack : List ℕ) (es : List Entry) → AreFormatting es →
     AreFormatting (made_already stack es)
 already_formatting stack [] are = are
 already_formatting stack (e ∷ rest) are = formatting_by (is_kept stack e) (e ∷ rest) (made_already stack rest) are
-    (already_formatting stack rest (behind_entry e rest are))
+    (already_formatting stack rest (after_entry e rest are))

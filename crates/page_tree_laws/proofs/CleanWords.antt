@@ -1,6 +1,6 @@
 -- What words on a tree make of its texts, and of the open elements: none of them is of a barred name.
-use Rattle.std.proofs.Common.{◌≡◌, ℕ, ◌+◌, inl, inr, Bool, true, false, if◌then◌else◌, List, [], ◌∷◌}
-use Rattle.std.proofs.Common.{codes, refl, sym, ap, subst, ◌∙◌, arith}
+use Rattle.std.proofs.Common.{◌≡◌, ◌+◌, if◌then◌else◌, [], ◌∷◌, ◌∙◌, Bool, List, ap, arith, codes, false, inl, inr}
+use Rattle.std.proofs.Common.{refl, subst, sym, true, ℕ}
 use Rattle.tree_formatting.specs.Entries.{Entry, formatted, marker}
 use Rattle.tree_forest.specs.Changes.{made_element}
 use Rattle.tree_forest.specs.Forest.{Forest, Holds, name_of, nodes}
@@ -16,10 +16,9 @@ use Rattle.html_tree_state.specs.Insertions.{here, inserted_at, said, with_eleme
 use Rattle.tree_names.specs.Sets.{is_html, is_one_of}
 use Rattle.tree_names.specs.TagSets.{formatting}
 use Rattle.tree_predicates.specs.Attributes.{is_html_annotation}
-use Rattle.page_tree_laws.proofs.CleanLists.{AreFormatting, AreLeft, already_formatting, behind_entry, formatting_free}
+use Rattle.page_tree_laws.proofs.CleanLists.{AreFormatting, AreLeft, after_entry, already_formatting, formatting_free}
 use Rattle.page_tree_laws.proofs.CleanLists.{is_barred, pushed_formatting, to_make_formatting}
-use Rattle.page_tree_laws.proofs.ForestTexts.{Follows, IsNew, element_new, new_then, put_follows}
-use Rattle.page_tree_laws.proofs.ForestTexts.{still_held}
+use Rattle.page_tree_laws.proofs.ForestTexts.{Follows, IsNew, element_new, new_then, put_follows, still_held}
 use Rattle.page_tree_laws.proofs.WordTexts.{Says, words_said}
 use Rattle.page_tree_laws.specs.KeptText.{how_often, in_texts}
 
@@ -145,7 +144,7 @@ all_carried : (entries : List Entry) (b : Building) → AreFormatting entries �
 all_carried [] b are clean = carried_itself b clean
 all_carried (entry ∷ earlier) b are clean =
     carried_on b (all_made_anew earlier b) (made_anew entry (all_made_anew earlier b))
-    (all_carried earlier b (behind_entry entry earlier are) clean)
+    (all_carried earlier b (after_entry entry earlier are) clean)
     (entry_carried entry earlier (all_made_anew earlier b) are)
 
 pub reconstructed_carried : (b : Building) → IsClean b → IsCarried b (reconstructed b)

@@ -1,7 +1,7 @@
 -- Clearing the stack back to a context: after it the current node may be popped, where one of a set was in table scope
 -- (WHATWG HTML, 13.2.6.4.13 and 13.2.6.4.14).
-use Rattle.std.proofs.Common.{◌≡◌, ℕ, inl, inr, Bool, true, false, if◌then◌else◌, List, [], ◌∷◌, codes, refl, sym}
-use Rattle.std.proofs.Common.{subst}
+use Rattle.std.proofs.Common.{◌≡◌, if◌then◌else◌, [], ◌∷◌, Bool, List, codes, false, inl, inr, refl, subst, sym, true}
+use Rattle.std.proofs.Common.{ℕ}
 use Rattle.tree_forest.specs.Forest.{Forest, name_of}
 use Rattle.tree_forest.specs.Orders.{IsIn}
 use Rattle.html_lexemes.specs.declared.names.Namespace.{Namespace}

@@ -1,6 +1,6 @@
 -- What a mark comes to where the head stands and the body is to come, but for templates and for what makes the body.
-use Rattle.std.proofs.Common.{◌≡◌, ℕ, Bool, true, false, if◌then◌else◌, List, [], ◌∷◌}
-use Rattle.std.proofs.Common.{inl, inr, codes, refl, sym, ap, subst, ◌∙◌}
+use Rattle.std.proofs.Common.{◌≡◌, if◌then◌else◌, [], ◌∷◌, ◌∙◌, Bool, List, ap, codes, false, inl, inr, refl, subst}
+use Rattle.std.proofs.Common.{sym, true, ℕ}
 use Rattle.tree_forest.specs.Forest.{Forest, name_of, nodes}
 use Rattle.html_lexemes.specs.declared.states.RawKind.TheVariants.{Rawtext}
 use Rattle.html_lexemes.specs.declared.token.Tag.{Tag}
@@ -21,24 +21,24 @@ use Rattle.tree_names.specs.declared.group.TagGroup.{TagGroup}
 use Rattle.tree_names.specs.declared.group.TagGroup.TheVariants as groups
 use Rattle.rules_table.specs.Actions.{act, act_all, at_place, go_to, in_html, insert, is_text}
 use Rattle.rules_table.specs.Asking.{has_template}
-use Rattle.rules_table.specs.InHead.{head_closed, in_head_end, in_head_start, in_head_text, noscript_start, template_end}
+use Rattle.rules_table.specs.InHead.{head_closed, in_head_end, in_head_start, in_head_text, noscript_start}
+use Rattle.rules_table.specs.InHead.{template_end}
 use Rattle.rules_table.specs.InHeadNoscript.{noscript_closed}
-use Rattle.rules_table.specs.Rows.{for_character, ignored}
-use Rattle.rules_table.specs.Rows.{is_white_space}
-use Rattle.rules_table.specs.State.{Mark, State, character, comment, doctype, end_of_file, finish, null, start}
+use Rattle.rules_table.specs.Rows.{for_character, ignored, is_white_space}
+use Rattle.rules_table.specs.State.{TreeToken, State, character, comment, doctype, end_of_file, finish, null, start}
 use Rattle.rules_table.specs.Table.{row}
 use Rattle.rules_table.specs.declared.target.Target.{Target}
 use Rattle.rules_table.specs.declared.target.Target.TheVariants as targets
 use Rattle.tree_predicates.specs.declared.modes.InsertionMode.TheVariants as modes
 
 -- what of start tags may be emitted: framesets in a page of frames alone
-abbrev pub IsToldGroup : Bool → TagGroup → Type 0
-IsToldGroup is_framed groups.Frameset = is_framed ≡ true
-IsToldGroup is_framed _ = Unit {0}
+abbrev pub IsEmittedGroup : Bool → TagGroup → Type 0
+IsEmittedGroup is_framed groups.Frameset = is_framed ≡ true
+IsEmittedGroup is_framed _ = Unit {0}
 
-abbrev pub IsToldMark : Bool → Mark → Type 0
-IsToldMark is_framed (start t) = IsToldGroup is_framed (tag_group t.name)
-IsToldMark is_framed _ = Unit {0}
+abbrev pub IsEmittedMark : Bool → TreeToken → Type 0
+IsEmittedMark is_framed (start t) = IsEmittedGroup is_framed (tag_group t.name)
+IsEmittedMark is_framed _ = Unit {0}
 
 if_false : {A : Type 0} (b : Bool) (x y : A) → b ≡ false → (if b then x else y) ≡ y
 if_false true x y e = absurd (let k : true ≡ false = e in cc)
@@ -182,7 +182,7 @@ module _ (is_framed : Bool) (root head : ℕ) where
       (none_open s (head ∷ root ∷ []) e (with_head s early))
   head_end group s early m e = stays_comes is_framed root head s early (in_head m e)
 
-  pub head_row : (mark : Mark) (s : State) → StartsTemplate targets.AtPlace s → IsEarly root head s →
+  pub head_row : (mark : TreeToken) (s : State) → StartsTemplate targets.AtPlace s → IsEarly root head s →
       s.mode ≡ modes.InHead → s.tree.stack ≡ head ∷ root ∷ [] → Comes is_framed s (row modes.InHead mark s)
   head_row (character c) s starts early m e = head_text (is_white_space c) c s early m e
   head_row null s starts early m e = head_closes s early e

@@ -1,6 +1,5 @@
 -- States in which the head stands and the body is to come, after single actions.
-use Rattle.std.proofs.Common.{◌≡◌, ℕ, Bool, true, false, if◌then◌else◌, List, ◌∷◌, codes}
-use Rattle.std.proofs.Common.{inl, inr, refl, ap, ◌∙◌}
+use Rattle.std.proofs.Common.{◌≡◌, if◌then◌else◌, ◌∷◌, ◌∙◌, Bool, List, ap, codes, false, inl, inr, refl, true, ℕ}
 use Rattle.tree_forest.specs.Forest.{name_of}
 use Rattle.tree_forest.specs.Places.{below}
 use Rattle.html_tree_state.specs.Insertions.{here}

@@ -1,8 +1,8 @@
 -- The rules of the modes "in head", "in head noscript" and "after head" where the body is to come, but for templates
 -- and for
 -- what makes the body.
-use Rattle.std.proofs.Common.{◌≡◌, ℕ, Bool, true, false, List, [], ◌∷◌, Option, None, Some}
-use Rattle.std.proofs.Common.{codes, refl, sym, ap, subst, ◌∙◌}
+use Rattle.std.proofs.Common.{◌≡◌, [], ◌∷◌, ◌∙◌, Bool, List, None, Option, Some, ap, codes, false, refl, subst, sym}
+use Rattle.std.proofs.Common.{true, ℕ}
 use Rattle.tree_forest.specs.Forest.{nodes}
 use Rattle.tree_forest.specs.Changes.{made_element}
 use Rattle.tree_forest.specs.Places.{Place, below, put_node}
@@ -11,7 +11,8 @@ use Rattle.html_lexemes.specs.declared.states.RawKind.TheVariants.{Rawtext, Rcda
 use Rattle.html_tree_state.specs.Building.{Building}
 use Rattle.page_tree_laws.proofs.ForestTexts.{IsNew, element_new, new_then, put_follows}
 use Rattle.rules_table.specs.Encodings.{named_encoding}
-use Rattle.rules_table.specs.Actions.{is_text}
+use Rattle.rules_table.specs.Actions.{act, add_attributes, insert, insert_comment, insert_void, inserted_into}
+use Rattle.rules_table.specs.Actions.{inserted_void_into, is_text, say}
 use Rattle.tree_predicates.specs.Attributes.{is_html_annotation}
 use Rattle.html_lexemes.specs.declared.states.RawKind.{RawKind}
 use Rattle.html_lexemes.specs.declared.names.QualName.{QualName}
@@ -19,18 +20,15 @@ use Rattle.html_lexemes.specs.declared.token.Tag.{Tag}
 use Rattle.html_tree_state.specs.Formatting.{name_for}
 use Rattle.html_tree_state.specs.Insertions.{here, inserted_at, with_element}
 use Rattle.tree_names.specs.Sets.{is_html}
-use Rattle.page_tree_laws.proofs.EarlyPhases.{Comes, comes_if}
-use Rattle.page_tree_laws.proofs.EarlyPhases.{quiet_comes}
+use Rattle.page_tree_laws.proofs.EarlyPhases.{Comes, comes_if, quiet_comes}
 use Rattle.page_tree_laws.proofs.EarlySteps.{early_on, kept_same}
 use Rattle.page_tree_laws.proofs.GuardedForests.{KeptOn, still_held}
 use Rattle.page_tree_laws.proofs.Phases.{IsEarly, IsEarlyStack, body_to_come, head_guard, in_head, in_noscript}
 use Rattle.page_tree_laws.proofs.Phases.{past_head, text_of_head, text_of_noscript, text_past_head}
-use Rattle.page_tree_laws.proofs.QuietActions.{IsQuiet, attributes_quiet, comment_quiet, said_quiet}
-use Rattle.page_tree_laws.proofs.QuietActions.{element_below, void_quiet}
+use Rattle.page_tree_laws.proofs.QuietActions.{IsQuiet, attributes_quiet, comment_quiet, element_below, said_quiet}
+use Rattle.page_tree_laws.proofs.QuietActions.{void_quiet}
 use Rattle.tree_names.specs.declared.group.TagGroup.{TagGroup}
 use Rattle.tree_names.specs.declared.group.TagGroup.TheVariants as groups
-use Rattle.rules_table.specs.Actions.{act, add_attributes, insert, insert_comment}
-use Rattle.rules_table.specs.Actions.{insert_void, inserted_into, inserted_void_into, say}
 use Rattle.rules_table.specs.Asking.{first_opened, has_template}
 use Rattle.rules_table.specs.HtmlTag.{given_to, html_start}
 use Rattle.rules_table.specs.InHead.{asks_encoding, in_head_start}

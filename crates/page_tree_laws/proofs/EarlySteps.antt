@@ -1,15 +1,14 @@
 -- What actions make of a state in which the head stands and the body is to come.
-use Rattle.std.proofs.Common.{◌≡◌, ℕ, ◌≤◌, ◌&&◌, inl, Bool, true, false, if◌then◌else◌, List, ◌∷◌}
-use Rattle.std.proofs.Common.{codes, refl, sym, ap, subst, ◌∙◌, arith}
+use Rattle.std.proofs.Common.{◌≡◌, ◌≤◌, ◌&&◌, if◌then◌else◌, ◌∷◌, ◌∙◌, Bool, List, ap, arith, codes, false, inl, refl}
+use Rattle.std.proofs.Common.{subst, sym, true, ℕ}
 use Rattle.tree_formatting.specs.Entries.{Entry}
 use Rattle.tree_forest.specs.Changes.{made_element}
-use Rattle.tree_forest.specs.Forest.{Forest, Holds, name_of, nodes}
+use Rattle.tree_forest.specs.Forest.{Forest, Holds, contents_of, name_of, nodes}
 use Rattle.tree_forest.specs.Places.{Place, below, put_node}
 use Rattle.html_lexemes.specs.declared.names.Attribute.{Attribute}
 use Rattle.html_lexemes.specs.declared.names.QualName.{QualName}
 use Rattle.html_tree_state.specs.Building.{Building}
 use Rattle.html_tree_state.specs.Insertions.{foster_place, here, holder, inside, place_for}
-use Rattle.tree_forest.specs.Forest.{contents_of}
 use Rattle.html_tree_state.specs.OpenElements.{current_of}
 use Rattle.tree_names.specs.ElementSets.{foster_targets}
 use Rattle.tree_names.specs.Sets.{is_element_of, is_html}

@@ -1,7 +1,6 @@
 -- Text, comments, doctypes, end tags and the end of the page: rows that neither open nor close a template (WHATWG HTML,
 -- 13.2.6.4.7 to 13.2.6.4.16); and the rule for a mark. A clause on any other group is checked group by group.
-use Rattle.std.proofs.Common.{◌≡◌, ℕ, Bool, true, false, if◌then◌else◌, List, [], ◌∷◌, codes}
-use Rattle.std.proofs.Common.{refl}
+use Rattle.std.proofs.Common.{◌≡◌, if◌then◌else◌, [], ◌∷◌, Bool, List, codes, false, refl, true, ℕ}
 use Rattle.html_lexemes.specs.declared.token.Doctype.{Doctype}
 use Rattle.html_lexemes.specs.declared.token.Tag.{Tag}
 use Rattle.tree_names.specs.Wanted.{one}
@@ -22,28 +21,28 @@ use Rattle.rules_table.specs.InCell.{outer_end, past_cell}
 use Rattle.rules_table.specs.InColumnGroup.{in_column_group_end, in_column_group_text, is_in_column_group}
 use Rattle.rules_table.specs.InRow.{is_in_row, past_row}
 use Rattle.rules_table.specs.InTable.{in_table_end, in_table_text_row}
-use Rattle.rules_table.specs.Rows.{TextRow, dropped, for_character, for_null, ignored}
-use Rattle.rules_table.specs.Rows.{is_white_space, kept, said_behind, then_again}
-use Rattle.rules_table.specs.State.{Mark, State, character, comment, doctype, end_of_file, finish, null, start}
+use Rattle.rules_table.specs.Rows.{TextRow, dropped, for_character, for_null, ignored, is_white_space, kept, said_after}
+use Rattle.rules_table.specs.Rows.{then_again}
+use Rattle.rules_table.specs.State.{TreeToken, State, character, comment, doctype, end_of_file, finish, null, start}
 use Rattle.rules_table.specs.Table.{comment_row, doctype_row, end_of_file_row, end_row, row, text_row}
 use Rattle.tree_predicates.specs.declared.modes.InsertionMode.{InsertionMode}
 use Rattle.tree_predicates.specs.declared.modes.InsertionMode.TheVariants as modes
 
 -- what a mode makes of text
 abbrev pub IsEvenText : TextRow → Type 0
-IsEvenText (said_behind actions) = AreEven actions
+IsEvenText (said_after actions) = AreEven actions
 IsEvenText (then_again actions) = AreEven actions
 IsEvenText _ = Unit {0}
 
 pub character_even : (c : ℕ) (r : TextRow) → IsEvenText r → IsEvenRow (for_character c r)
 character_even c dropped are = tt
-character_even c (said_behind actions) are = even_append actions (say (c ∷ []) ∷ []) are (tt, tt)
+character_even c (said_after actions) are = even_append actions (say (c ∷ []) ∷ []) are (tt, tt)
 character_even c kept are = (tt, tt)
 character_even c (then_again actions) are = are
 
 null_even : (r : TextRow) → IsEvenText r → IsEvenRow (for_null r)
 null_even dropped are = tt
-null_even (said_behind actions) are = tt
+null_even (said_after actions) are = tt
 null_even kept are = tt
 null_even (then_again actions) are = are
 
@@ -204,13 +203,13 @@ file_even modes.InTableText s calm = collected_even s
 file_even mode s calm = none calm
 
 -- marks that neither open nor close a template
-abbrev pub IsCalmMark : InsertionMode → Mark → Type 0
+abbrev pub IsCalmMark : InsertionMode → TreeToken → Type 0
 IsCalmMark mode (start t) = is_calm_start mode (tag_group t.name) ≡ true
 IsCalmMark mode (finish t) = is_calm_end mode (tag_group t.name) ≡ true
 IsCalmMark mode end_of_file = is_calm_file mode ≡ true
 IsCalmMark mode _ = Unit {0}
 
-pub even_row : (mode : InsertionMode) → is_build_mode mode ≡ true → (mark : Mark) (s : State) →
+pub even_row : (mode : InsertionMode) → is_build_mode mode ≡ true → (mark : TreeToken) (s : State) →
     IsCalmMark mode mark → IsEvenRow (row mode mark s)
 even_row mode is (character c) s calm =
     character_even c (text_row mode (is_white_space c) s) (text_even mode is (is_white_space c) s)

@@ -1,7 +1,7 @@
 -- Rows that neither open nor close a template: those of the body do so, where no template is emitted (WHATWG HTML,
 -- 13.2.6.4.7). A clause on any other group is checked group by group.
-use Rattle.std.proofs.Common.{◌≡◌, ℕ, Bool, true, false, if◌then◌else◌, List, [], ◌∷◌, ◌++◌, Option, None, Some, codes}
-use Rattle.std.proofs.Common.{refl}
+use Rattle.std.proofs.Common.{◌≡◌, if◌then◌else◌, [], ◌∷◌, ◌++◌, Bool, List, None, Option, Some, codes, false, refl}
+use Rattle.std.proofs.Common.{true, ℕ}
 use Rattle.tree_formatting.specs.Entries.{last_named}
 use Rattle.html_lexemes.specs.declared.token.Tag.{Tag}
 use Rattle.html_tree_state.specs.Formatting.{name_for}
@@ -15,15 +15,14 @@ use Rattle.tree_names.specs.Groups.{tag_group}
 use Rattle.tree_names.specs.declared.group.TagGroup.{TagGroup}
 use Rattle.tree_names.specs.declared.group.TagGroup.TheVariants as groups
 use Rattle.rules_table.specs.Actions.{Action, at_place, foster, in_html, insert, insert_foreign, insert_formatting}
-use Rattle.rules_table.specs.Actions.{insert_named, insert_void, pop_template_mode, push_template_mode}
-use Rattle.rules_table.specs.Actions.{refuse_frameset}
-use Rattle.rules_table.specs.Asking.{body_of, first_opened, has_form, has_template, in_button_scope}
-use Rattle.rules_table.specs.Asking.{in_list_item_scope, in_scope, is_itself_in_scope, is_quirky}
+use Rattle.rules_table.specs.Actions.{insert_named, insert_void, pop_template_mode, push_template_mode, refuse_frameset}
+use Rattle.rules_table.specs.Asking.{body_of, first_opened, has_form, has_template, in_button_scope, in_list_item_scope}
+use Rattle.rules_table.specs.Asking.{in_scope, is_itself_in_scope, is_quirky}
 use Rattle.rules_table.specs.HtmlTag.{given_to, html_start}
 use Rattle.rules_table.specs.InBody.{in_body_start}
 use Rattle.rules_table.specs.InBodyBlocks.{body_start, form_start, frameset_start, given_to_body, in_place_of_body}
 use Rattle.rules_table.specs.InBodyEnds.{form_end, form_pointer_end, in_body_end}
-use Rattle.rules_table.specs.InBodyPhrases.{anchor_behind, input_start, select_closed}
+use Rattle.rules_table.specs.InBodyPhrases.{anchor_after, input_start, select_closed}
 use Rattle.rules_table.specs.InHead.{asks_encoding, in_head_start}
 use Rattle.rules_table.specs.Rows.{Row, again, asks, between_fosters, done, fostered, ignored}
 use Rattle.rules_table.specs.State.{State}
@@ -136,7 +135,7 @@ form_even : (t : Tag) (s : State) → IsOther t.name → IsEvenRow (form_start t
 form_even t s is = even_if (has_form s) _ _ tt
     (even_if (has_template s) _ _ (tt, (is, tt)) (tt, (is, (tt, tt))))
 
-anchor_even : (listed : Option ℕ) (t : Tag) → IsOther t.name → IsEvenRow (anchor_behind listed t)
+anchor_even : (listed : Option ℕ) (t : Tag) → IsOther t.name → IsEvenRow (anchor_after listed t)
 anchor_even None t is = (tt, (is, tt))
 anchor_even (Some n) t is = (tt, (tt, (tt, (tt, (is, tt)))))
 

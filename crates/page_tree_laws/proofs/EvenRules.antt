@@ -1,7 +1,7 @@
 -- The rule for a mark neither opens nor closes a template where the rows of the mode do not: what is inserted in
 -- foreign content is no element of HTML (WHATWG HTML, 13.2.6 and 13.2.6.5).
-use Rattle.std.proofs.Common.{◌≡◌, ℕ, ◌||◌, Bool, true, false, if◌then◌else◌, List, [], ◌∷◌, Option, None, Some, codes}
-use Rattle.std.proofs.Common.{is_some, refl}
+use Rattle.std.proofs.Common.{◌≡◌, ◌||◌, if◌then◌else◌, [], ◌∷◌, Bool, List, None, Option, Some, codes, false, is_some}
+use Rattle.std.proofs.Common.{refl, true, ℕ}
 use Rattle.tree_forest.specs.Forest.{Forest, is_integration_point, name_of}
 use Rattle.html_lexemes.specs.declared.names.Namespace.{Namespace}
 use Rattle.html_lexemes.specs.declared.names.Namespace.TheVariants.{Html, MathMl, Other, Svg}
@@ -15,7 +15,7 @@ use Rattle.rules_table.specs.ForeignContent.{foreign_start, foreign_text, is_by_
 use Rattle.rules_table.specs.ForeignContent.{node_here}
 use Rattle.rules_table.specs.Rows.{Row, after, again, asks, done, is_white_space}
 use Rattle.rules_table.specs.Rule.{broken_out_row, foreign_end, foreign_row}
-use Rattle.rules_table.specs.State.{Mark, State, character, comment, doctype, end_of_file, finish, null, start}
+use Rattle.rules_table.specs.State.{TreeToken, State, character, comment, doctype, end_of_file, finish, null, start}
 use Rattle.rules_table.specs.Table.{row}
 use Rattle.tree_predicates.specs.Foreign.{breaks_out, takes_start}
 
@@ -55,7 +55,7 @@ after_even (done actions) are = (tt, are)
 after_even (asks ask actions) are = (tt, are)
 after_even (again actions) are = (tt, are)
 
-foreign_even : (mark : Mark) (s : State) → is_by_mode mark s ≡ false → IsEvenRow (row s.mode mark s) →
+foreign_even : (mark : TreeToken) (s : State) → is_by_mode mark s ≡ false → IsEvenRow (row s.mode mark s) →
     IsEvenRow (row s.mode mark (act break_out s)) → IsEvenRow (foreign_row mark s)
 foreign_even (character c) s off here out =
     character_even c (foreign_text (is_white_space c)) (text_even (is_white_space c))

@@ -10,8 +10,8 @@ use Rattle.page_tree_laws.proofs.FittingHeads.{none}
 use Rattle.page_tree_laws.proofs.FittingTexts.{is_build_mode}
 use Rattle.tree_names.specs.declared.group.TagGroup.{TagGroup}
 use Rattle.tree_names.specs.declared.group.TagGroup.TheVariants as groups
-use Rattle.rules_table.specs.Actions.{at_place, forget_pending, foster, go_back, is_known, reconstruct}
-use Rattle.rules_table.specs.Actions.{refuse_frameset, say}
+use Rattle.rules_table.specs.Actions.{at_place, forget_pending, foster, go_back, is_known, reconstruct, refuse_frameset}
+use Rattle.rules_table.specs.Actions.{say}
 use Rattle.rules_table.specs.Asking.{all_are, has_template, in_table_scope}
 use Rattle.rules_table.specs.InBody.{in_body_start}
 use Rattle.rules_table.specs.InCaption.{in_caption_start, past_caption}

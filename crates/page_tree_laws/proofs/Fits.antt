@@ -7,19 +7,18 @@ use Rattle.page_tree_laws.proofs.Guards.{StopsAbove, StopsAtBase, is_barred, is_
 use Rattle.tree_names.specs.Groups.{tag_group}
 use Rattle.tree_names.specs.declared.group.TagGroup.{TagGroup}
 use Rattle.tree_names.specs.declared.group.TagGroup.TheVariants as groups
-use Rattle.rules_table.specs.Actions.{Action, act, add_attributes, adopt, adopt_in_scope, append_doctype}
-use Rattle.rules_table.specs.Actions.{break_out, but_text, clear_to_marker, close_foreign}
-use Rattle.rules_table.specs.Actions.{close_item, close_other, close_p}
-use Rattle.rules_table.specs.Actions.{comment_to_document, comment_to_root, forget_form, forget_pending, foster, go_back}
-use Rattle.rules_table.specs.Actions.{go_to, hold_mode, imply_but, in_html, insert, insert_comment, insert_foreign}
-use Rattle.rules_table.specs.Actions.{insert_formatting, insert_named, insert_void, is_of_text, is_text, keep_form}
-use Rattle.rules_table.specs.Actions.{keep_head, keep_pending, later_modes, out_of_text, pop, pop_down_to, pop_if}
-use Rattle.rules_table.specs.Actions.{pop_template_mode, pop_to, push_template_mode, put_marker, reconstruct}
+use Rattle.rules_table.specs.Actions.{Action, act, add_attributes, adopt, adopt_in_scope, append_doctype, break_out}
+use Rattle.rules_table.specs.Actions.{but_text, clear_to_marker, close_foreign, close_item, close_other, close_p}
+use Rattle.rules_table.specs.Actions.{comment_to_document, comment_to_root, forget_form, forget_pending, foster}
+use Rattle.rules_table.specs.Actions.{go_back, go_to, hold_mode, imply_but, in_html, insert, insert_comment}
+use Rattle.rules_table.specs.Actions.{insert_foreign, insert_formatting, insert_named, insert_void, is_of_text, is_text}
+use Rattle.rules_table.specs.Actions.{keep_form, keep_head, keep_pending, later_modes, out_of_text, pop, pop_down_to}
+use Rattle.rules_table.specs.Actions.{pop_if, pop_template_mode, pop_to, push_template_mode, put_marker, reconstruct}
 use Rattle.rules_table.specs.Actions.{refuse_frameset, reset, say, set_quirks, skip_next_line_feed, take_off, take_out}
 use Rattle.rules_table.specs.Actions.{unlist}
 use Rattle.rules_table.specs.Asking.{has_template, in_scope}
-use Rattle.rules_table.specs.Rows.{Row, TextRow, again, asks, done, dropped, kept, said_behind, then_again}
-use Rattle.rules_table.specs.State.{Ask, Mark, State, encoding, end_of_file, finish, nothing, plaintext, raw}
+use Rattle.rules_table.specs.Rows.{Row, TextRow, again, asks, done, dropped, kept, said_after, then_again}
+use Rattle.rules_table.specs.State.{Ask, State, TreeToken, encoding, end_of_file, finish, nothing, plaintext, raw}
 use Rattle.rules_table.specs.State.{script}
 use Rattle.rules_table.specs.declared.target.Target.TheVariants as targets
 use Rattle.tree_predicates.specs.declared.modes.InsertionMode.{InsertionMode}
@@ -137,7 +136,7 @@ FitsRow g s (again actions) = FitAll g actions s
 -- rows of text: what is said follows
 abbrev pub FitsText : Guard → State → TextRow → Type 0
 FitsText g s dropped = Unit {0}
-FitsText g s (said_behind actions) = FitAll g actions s
+FitsText g s (said_after actions) = FitAll g actions s
 FitsText g s kept = Unit {0}
 FitsText g s (then_again actions) = FitAll g actions s
 
@@ -179,7 +178,7 @@ Closes g s groups.Template = ClosesTemplate g s
 Closes g s _ = Unit {0}
 
 -- and so does the end of the page.
-abbrev pub ClosesMark : Guard → State → Mark → Type 0
+abbrev pub ClosesMark : Guard → State → TreeToken → Type 0
 ClosesMark g s (finish t) = Closes g s (tag_group t.name)
 ClosesMark g s end_of_file = ClosesTemplate g s
 ClosesMark g s _ = Unit {0}

@@ -9,7 +9,7 @@ use Rattle.page_tree_laws.proofs.Fits.{CanGoOn, Closes, Fits, FitsRow, IsHeld}
 use Rattle.page_tree_laws.proofs.FittingCases.{fits_if}
 use Rattle.page_tree_laws.proofs.FittingHeads.{template_fits}
 use Rattle.page_tree_laws.proofs.FittingStarts.{scope_free}
-use Rattle.page_tree_laws.proofs.FittingSteps.{RowFacts, TopFacts, above_base, pops_behind, stops_above, unbarred}
+use Rattle.page_tree_laws.proofs.FittingSteps.{RowFacts, TopFacts, above_base, pops_after, stops_above, unbarred}
 use Rattle.page_tree_laws.proofs.GroupNames.{IsUnimplied, all_pass, element_apart, excepted, fails, frameset_named}
 use Rattle.page_tree_laws.proofs.GroupNames.{head_named, is_free_group, is_unimplied_group, no_base_name}
 use Rattle.page_tree_laws.proofs.GroupNames.{no_implied_name, one_fails, unimplied_words}
@@ -40,7 +40,7 @@ pub own_closed : (g : Guard) → RowFacts g → (t : Tag) (group : TagGroup) (s 
     is_free_group group ≡ true → is_unimplied_group group ≡ true → HasFree g (one t.name) s.tree.forest s.tree.stack →
     Fits g (pop_to (one t.name)) (act (imply_but none) s)
 own_closed g facts t group s e own implied has =
-    pops_behind g none (one t.name) s (own_unimplied t group e implied) has
+    pops_after g none (one t.name) s (own_unimplied t group e implied) has
 
 block_fits : (g : Guard) → RowFacts g → (t : Tag) (group : TagGroup) (s : State) → tag_group t.name ≡ group →
     is_free_group group ≡ true → is_unimplied_group group ≡ true → IsHeld g s → FitsRow g s (block_end t s)
@@ -53,7 +53,7 @@ definition_fits g facts t s e held = fits_if g s (in_scope (one t.name) s) _ ign
     (λ is. (
       tt,
       (
-        pops_behind g (one t.name) (one t.name) s (excepted (one t.name))
+        pops_after g (one t.name) (one t.name) s (excepted (one t.name))
             (own_free g facts t groups.Definition s e refl held is),
         tt,
       ),
@@ -72,7 +72,7 @@ form_fits g facts s held = fits_if g s (has_template s) _ (form_pointer_end s.fo
     (λ is. (
       tt,
       (
-        pops_behind g none (one (codes "form")) s (unimplied_words none (codes "form" ∷ []) refl)
+        pops_after g none (one (codes "form")) s (unimplied_words none (codes "form" ∷ []) refl)
             (scope_free g facts (codes "form" ∷ []) s held refl is),
         tt,
       ),
@@ -113,7 +113,7 @@ body_end_fits g facts top groups.ListItem t s e can close = fits_if g s (in_list
     (λ is. (
       tt,
       (
-        pops_behind g (one (codes "li")) (one (codes "li")) s (excepted (one (codes "li")))
+        pops_after g (one (codes "li")) (one (codes "li")) s (excepted (one (codes "li")))
             (facts.stack.scope_has_free list_item_scope_barriers (one (codes "li")) s.tree can.held.tree
             (above_base g facts (codes "li" ∷ []) refl) is),
         tt,
@@ -124,7 +124,7 @@ body_end_fits g facts top groups.Heading t s e can close = fits_if g s (in_scope
     (λ is. (
       tt,
       (
-        pops_behind g none headings s (unimplied_words none heading_names refl)
+        pops_after g none headings s (unimplied_words none heading_names refl)
             (scope_free g facts heading_names s can.held refl is),
         tt,
       ),

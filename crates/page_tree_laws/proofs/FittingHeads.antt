@@ -6,7 +6,7 @@ use Rattle.tree_names.specs.Sets.{html_elements, is_one_of}
 use Rattle.tree_names.specs.Wanted.{one}
 use Rattle.page_tree_laws.proofs.Fits.{CanBuild, ClosesTemplate, FitAll, Fits, FitsRow, MayReset}
 use Rattle.page_tree_laws.proofs.FittingCases.{fits_if, insert_fits, void_fits}
-use Rattle.page_tree_laws.proofs.FittingSteps.{RowFacts, group_unbarred, pops_behind, word_unbarred}
+use Rattle.page_tree_laws.proofs.FittingSteps.{RowFacts, group_unbarred, pops_after, word_unbarred}
 use Rattle.page_tree_laws.proofs.GroupNames.{template_named, unimplied_words}
 use Rattle.page_tree_laws.proofs.Guards.{Guard}
 use Rattle.tree_names.specs.Groups.{tag_group}
@@ -98,7 +98,7 @@ template_fits g s close = fits_if g s (has_template s) _ ignored
     (λ e. (
       tt,
       (
-        pops_behind g (html_elements []) (one (codes "template")) s
+        pops_after g (html_elements []) (one (codes "template")) s
             (unimplied_words (html_elements []) (codes "template" ∷ []) refl) (close e).0,
         (tt, (tt, (template_resets g s (close e).1, tt))),
       ),

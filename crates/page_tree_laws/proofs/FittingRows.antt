@@ -20,10 +20,9 @@ use Rattle.page_tree_laws.proofs.FittingTexts.{body_text_fits, build_comment_fit
 use Rattle.page_tree_laws.proofs.FittingTexts.{character_fits, collected_fits, is_build_mode, null_fits}
 use Rattle.page_tree_laws.proofs.Guards.{Guard}
 use Rattle.tree_names.specs.Groups.{tag_group}
-use Rattle.rules_table.specs.Actions.{is_of_text}
-use Rattle.rules_table.specs.Actions.{is_text}
+use Rattle.rules_table.specs.Actions.{is_of_text, is_text}
 use Rattle.rules_table.specs.Rows.{is_white_space}
-use Rattle.rules_table.specs.State.{Mark, State, character, comment, doctype, end_of_file, finish, null, start}
+use Rattle.rules_table.specs.State.{TreeToken, State, character, comment, doctype, end_of_file, finish, null, start}
 use Rattle.rules_table.specs.Table.{end_of_file_row, end_row, row, start_row, text_row}
 use Rattle.tree_predicates.specs.declared.modes.InsertionMode.{InsertionMode}
 use Rattle.tree_predicates.specs.declared.modes.InsertionMode.TheVariants as modes
@@ -72,7 +71,7 @@ build_file_fits g modes.InTemplate is s can close at = file_end_fits g s close
 build_file_fits g mode is s can close at = none is
 
 -- the modes of the body, of tables and of templates
-pub body_row : (g : Guard) → BuildFacts g → (mode : InsertionMode) → is_build_mode mode ≡ true → (mark : Mark)
+pub body_row : (g : Guard) → BuildFacts g → (mode : InsertionMode) → is_build_mode mode ≡ true → (mark : TreeToken)
     (s : State) → CanBuild g s → is_text s.mode ≡ false → s.mode ≡ mode → ClosesMark g s mark →
     FitsRow g s (row mode mark s)
 body_row g facts mode is (character c) s can off at close = character_fits g s c (text_row mode (is_white_space c) s)
@@ -86,11 +85,11 @@ body_row g facts mode is (finish t) s can off at close = build_end_fits g facts 
 body_row g facts mode is end_of_file s can off at close = build_file_fits g mode is s can close at
 
 -- the mode "in body", where what a start tag asks beside is granted
-abbrev pub GrantsMark : Guard → State → Mark → Type 0
+abbrev pub GrantsMark : Guard → State → TreeToken → Type 0
 GrantsMark g s (start t) = Grants g s (tag_group t.name)
 GrantsMark g s _ = Unit {0}
 
-pub in_body_row : (g : Guard) → RowFacts g → TopFacts g → (mark : Mark) (s : State) → CanGoOn g s →
+pub in_body_row : (g : Guard) → RowFacts g → TopFacts g → (mark : TreeToken) (s : State) → CanGoOn g s →
     GrantsMark g s mark → ClosesMark g s mark → FitsRow g s (row modes.InBody mark s)
 in_body_row g facts top (character c) s can grant close = character_fits g s c
     (text_row modes.InBody (is_white_space c) s)
@@ -109,7 +108,7 @@ after_body_text_fits : (g : Guard) (is_space : Bool) (s : State) → g.allows mo
 after_body_text_fits g true s goes_on = (tt, tt)
 after_body_text_fits g false s goes_on = (goes_on, tt)
 
-pub after_body_row : (g : Guard) (mark : Mark) (s : State) → CanGoOn g s → g.allows modes.AfterAfterBody ≡ true →
+pub after_body_row : (g : Guard) (mark : TreeToken) (s : State) → CanGoOn g s → g.allows modes.AfterAfterBody ≡ true →
     FitsRow g s (row modes.AfterBody mark s)
 after_body_row g (character c) s can after = character_fits g s c (text_row modes.AfterBody (is_white_space c) s)
     (after_body_text_fits g (is_white_space c) s can.in_body)
@@ -120,7 +119,7 @@ after_body_row g (start t) s can after = after_body_start_fits g (tag_group t.na
 after_body_row g (finish t) s can after = after_body_end_fits g (tag_group t.name) s can after
 after_body_row g end_of_file s can after = tt
 
-pub after_after_body_row : (g : Guard) (mark : Mark) (s : State) → CanGoOn g s →
+pub after_after_body_row : (g : Guard) (mark : TreeToken) (s : State) → CanGoOn g s →
     FitsRow g s (row modes.AfterAfterBody mark s)
 after_after_body_row g (character c) s can = character_fits g s c
     (text_row modes.AfterAfterBody (is_white_space c) s) (after_body_text_fits g (is_white_space c) s can.in_body)
@@ -137,7 +136,7 @@ after_head_text_fits : (g : Guard) → OpenFacts g → (is_space : Bool) (s : St
 after_head_text_fits g known true s = tt
 after_head_text_fits g known false s = body_made_fits g s known
 
-pub after_head_row : (g : Guard) → BuildFacts g → OpenFacts g → (mark : Mark) (s : State) → CanBuild g s →
+pub after_head_row : (g : Guard) → BuildFacts g → OpenFacts g → (mark : TreeToken) (s : State) → CanBuild g s →
     ClosesMark g s mark → FitsRow g s (row modes.AfterHead mark s)
 after_head_row g facts known (character c) s can close = character_fits g s c
     (text_row modes.AfterHead (is_white_space c) s)
@@ -155,7 +154,7 @@ frame_text_fits : (g : Guard) (is_space : Bool) (s : State) → FitsText g s (te
 frame_text_fits g true s = tt
 frame_text_fits g false s = tt
 
-pub in_frameset_row : (g : Guard) → RowFacts g → FrameFacts g → (mark : Mark) (s : State) → IsHeld g s →
+pub in_frameset_row : (g : Guard) → RowFacts g → FrameFacts g → (mark : TreeToken) (s : State) → IsHeld g s →
     FitsRow g s (row modes.InFrameset mark s)
 in_frameset_row g facts known (character c) s held = character_fits g s c
     (text_row modes.InFrameset (is_white_space c) s) (frame_text_fits g (is_white_space c) s)
@@ -166,7 +165,7 @@ in_frameset_row g facts known (start t) s held = in_frameset_start_fits g facts 
 in_frameset_row g facts known (finish t) s held = in_frameset_end_fits g facts known (tag_group t.name) s held
 in_frameset_row g facts known end_of_file s held = tt
 
-pub after_frameset_row : (g : Guard) → RowFacts g → FrameFacts g → (mark : Mark) (s : State) →
+pub after_frameset_row : (g : Guard) → RowFacts g → FrameFacts g → (mark : TreeToken) (s : State) →
     FitsRow g s (row modes.AfterFrameset mark s)
 after_frameset_row g facts known (character c) s = character_fits g s c
     (text_row modes.AfterFrameset (is_white_space c) s) (frame_text_fits g (is_white_space c) s)
@@ -182,7 +181,7 @@ last_text_fits : (g : Guard) (is_space : Bool) (s : State) →
 last_text_fits g true s = (tt, tt)
 last_text_fits g false s = tt
 
-pub after_after_frameset_row : (g : Guard) → RowFacts g → (mark : Mark) (s : State) →
+pub after_after_frameset_row : (g : Guard) → RowFacts g → (mark : TreeToken) (s : State) →
     FitsRow g s (row modes.AfterAfterFrameset mark s)
 after_after_frameset_row g facts (character c) s = character_fits g s c
     (text_row modes.AfterAfterFrameset (is_white_space c) s) (last_text_fits g (is_white_space c) s)

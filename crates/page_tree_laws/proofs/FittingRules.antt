@@ -15,7 +15,7 @@ use Rattle.rules_table.specs.ForeignContent.{foreign_start, foreign_text, is_by_
 use Rattle.rules_table.specs.ForeignContent.{node_here}
 use Rattle.rules_table.specs.Rows.{done, is_white_space}
 use Rattle.rules_table.specs.Rule.{broken_out_row, foreign_end, foreign_row, rule}
-use Rattle.rules_table.specs.State.{Mark, State, character, comment, doctype, end_of_file, finish, null, start}
+use Rattle.rules_table.specs.State.{TreeToken, State, character, comment, doctype, end_of_file, finish, null, start}
 use Rattle.rules_table.specs.Table.{row}
 use Rattle.tree_predicates.specs.Foreign.{breaks_out, takes_start}
 
@@ -51,13 +51,13 @@ foreign_text_fits g true s = tt
 foreign_text_fits g false s = (tt, tt)
 
 -- the row of the mode, here and after breaking out of foreign content
-abbrev pub FitsHere : Guard → State → Mark → Type 0
+abbrev pub FitsHere : Guard → State → TreeToken → Type 0
 FitsHere g s mark = FitsRow g s (row s.mode mark s)
 
-abbrev pub FitsBrokenOut : Guard → State → Mark → Type 0
+abbrev pub FitsBrokenOut : Guard → State → TreeToken → Type 0
 FitsBrokenOut g s mark = FitsRow g (act break_out s) (row s.mode mark (act break_out s))
 
-foreign_fits : (g : Guard) (mark : Mark) (s : State) → is_by_mode mark s ≡ false → FitsHere g s mark →
+foreign_fits : (g : Guard) (mark : TreeToken) (s : State) → is_by_mode mark s ≡ false → FitsHere g s mark →
     FitsBrokenOut g s mark → FitsRow g s (foreign_row mark s)
 foreign_fits g (character c) s off here out =
     character_fits g s c (foreign_text (is_white_space c)) (foreign_text_fits g (is_white_space c) s)
@@ -72,7 +72,7 @@ foreign_fits g (finish t) s off here out = fits_if g s (breaks_out t) (broken_ou
     (row s.mode (finish t) s) (λ some. (tt, tt)) (λ some. here))
 foreign_fits g end_of_file s off here out = here
 
-pub rule_fits : (g : Guard) (mark : Mark) (s : State) → FitsHere g s mark → FitsBrokenOut g s mark →
+pub rule_fits : (g : Guard) (mark : TreeToken) (s : State) → FitsHere g s mark → FitsBrokenOut g s mark →
     FitsRow g s (rule mark s)
 rule_fits g mark s here out = fits_if g s (is_by_mode mark s) (row s.mode mark s) (foreign_row mark s) (λ e. here)
     (λ off. foreign_fits g mark s off here out)

@@ -10,8 +10,9 @@ use Rattle.page_tree_laws.proofs.Fits.{CanBuild, Closes, FitAll, FitsRow}
 use Rattle.page_tree_laws.proofs.FittingCases.{fits_if}
 use Rattle.page_tree_laws.proofs.FittingEnds.{own_closed}
 use Rattle.page_tree_laws.proofs.FittingHeads.{head_start_fits, template_fits}
-use Rattle.page_tree_laws.proofs.FittingSteps.{BuildFacts, group_unbarred, pops_behind, unbarred}
-use Rattle.page_tree_laws.proofs.FittingTables.{end_fits, start_fits, table_end_fits, table_scope_free, table_start_fits}
+use Rattle.page_tree_laws.proofs.FittingSteps.{BuildFacts, group_unbarred, pops_after, unbarred}
+use Rattle.page_tree_laws.proofs.FittingTables.{end_fits, start_fits, table_end_fits, table_scope_free}
+use Rattle.page_tree_laws.proofs.FittingTables.{table_start_fits}
 use Rattle.page_tree_laws.proofs.GroupNames.{no_base_name, one_fails, unimplied_words}
 use Rattle.page_tree_laws.proofs.Guards.{Guard, HasFree, StopsAtBase, base_names}
 use Rattle.tree_names.specs.Groups.{tag_group}
@@ -128,7 +129,7 @@ cell_closed_fits : (g : Guard) → BuildFacts g → (s : State) → CanBuild g s
 cell_closed_fits g facts s can has = (
   tt,
   (
-    pops_behind g none table_cells s (unimplied_words none cell_names refl) has,
+    pops_after g none table_cells s (unimplied_words none cell_names refl) has,
     (tt, (can.tables.in_row, tt)),
   ),
 )

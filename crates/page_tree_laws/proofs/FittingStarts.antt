@@ -14,7 +14,7 @@ use Rattle.tree_names.specs.Wanted.{one}
 use Rattle.page_tree_laws.proofs.Fits.{CanGoOn, FitAll, Fits, FitsRow, IsHeld}
 use Rattle.page_tree_laws.proofs.FittingCases.{all_if, fit_append, fits_if}
 use Rattle.page_tree_laws.proofs.FittingHeads.{Grants, head_start_fits, html_fits}
-use Rattle.page_tree_laws.proofs.FittingSteps.{RowFacts, above_base, group_unbarred, new_free, pops_behind, stops_above}
+use Rattle.page_tree_laws.proofs.FittingSteps.{RowFacts, above_base, group_unbarred, new_free, pops_after, stops_above}
 use Rattle.page_tree_laws.proofs.GroupNames.{all_pass, fails, no_base_name, unimplied_words}
 use Rattle.page_tree_laws.proofs.Guards.{Guard, HasFree, IsFree, IsKept, base_names, is_barred}
 use Rattle.tree_names.specs.Groups.{tag_group}
@@ -25,7 +25,7 @@ use Rattle.rules_table.specs.Actions.{refuse_frameset}
 use Rattle.rules_table.specs.Asking.{body_of, has_form, has_template, in_scope, is_quirky}
 use Rattle.rules_table.specs.InBody.{in_body_start}
 use Rattle.rules_table.specs.InBodyBlocks.{body_start, form_start, given_to_body, in_place_of_body, none}
-use Rattle.rules_table.specs.InBodyPhrases.{anchor_behind, input_start, select_closed, unless_hidden}
+use Rattle.rules_table.specs.InBodyPhrases.{anchor_after, input_start, select_closed, unless_hidden}
 use Rattle.rules_table.specs.Rows.{Row, ignored}
 use Rattle.rules_table.specs.State.{State}
 use Rattle.tree_predicates.specs.Attributes.{is_hidden}
@@ -72,7 +72,7 @@ scope_free g facts words s held all is = facts.stack.scope_has_free scope_barrie
 -- "a": one that is listed is closed and taken off
 anchor_fits : (g : Guard) → RowFacts g → (t : Tag) (s : State) (found : Option ℕ) →
     last_named t.name s.tree.formatting ≡ found → tag_group t.name ≡ groups.Anchor → IsHeld g s →
-    FitsRow g s (anchor_behind found t)
+    FitsRow g s (anchor_after found t)
 anchor_fits g facts t s None e own held = (tt, (group_unbarred g facts t groups.Anchor own refl, tt))
 anchor_fits g facts t s (Some n) e own held = (
   stops_above g facts t.name (no_base_name t.name groups.Anchor own refl),
@@ -149,7 +149,7 @@ body_start_fits g facts groups.Button t s e can grant =
     (λ is. (
       tt,
       (
-        pops_behind g none (one (codes "button")) s (unimplied_words none (codes "button" ∷ []) refl)
+        pops_after g none (one (codes "button")) s (unimplied_words none (codes "button" ∷ []) refl)
             (scope_free g facts (codes "button" ∷ []) s can.held refl is),
         (tt, (free, (tt, tt))),
       ),

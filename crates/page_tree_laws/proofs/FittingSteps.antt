@@ -1,6 +1,6 @@
 -- What rows ask of a guarded state, by what is open: names that no guard bars, and elements that may be popped.
-use Rattle.std.proofs.Common.{◌≡◌, ℕ, ◌<◌, ◌⊎◌, inl, inr, Bool, true, false, if◌then◌else◌, List, [], ◌∷◌, ◌++◌, Some}
-use Rattle.std.proofs.Common.{codes, refl, sym, subst, arith}
+use Rattle.std.proofs.Common.{◌≡◌, ◌<◌, ◌⊎◌, if◌then◌else◌, [], ◌∷◌, ◌++◌, Bool, List, Some, arith, codes, false, inl}
+use Rattle.std.proofs.Common.{inr, refl, subst, sym, true, ℕ}
 use Rattle.tree_formatting.specs.Entries.{last_named}
 use Rattle.tree_forest.specs.Forest.{Forest, Holds, name_of, nodes}
 use Rattle.tree_forest.specs.Orders.{IsIn}
@@ -127,19 +127,19 @@ still_open except f n [] off i = i
 still_open except f n (m ∷ ns) off i = stays_by (is_implied except (name_of m f)) n m ns (without_implied except f ns)
     (λ e. subst (λ k. is_implied except (name_of k f) ≡ false) e off) i (still_open except f n ns off)
 
-pub free_behind : (g : Guard) (except set : Elements) (f : Forest) (ns : List ℕ) → IsUnimplied except set →
+pub free_after : (g : Guard) (except set : Elements) (f : Forest) (ns : List ℕ) → IsUnimplied except set →
     HasFree g set f ns → HasFree g set f (without_implied except f ns)
-free_behind g except set f ns unimplied has = record {
+free_after g except set f ns unimplied has = record {
   node = has.node;
   is_open = still_open except f has.node ns (unimplied (name_of has.node f) has.named) has.is_open;
   free = has.free;
   named = has.named;
 }
 
-pub pops_behind : (g : Guard) (except set : Elements) (s : State) → IsUnimplied except set →
+pub pops_after : (g : Guard) (except set : Elements) (s : State) → IsUnimplied except set →
     HasFree g set s.tree.forest s.tree.stack → Fits g (pop_to set) (act (imply_but except) s)
 unfolding act
-pops_behind g except set s unimplied has = free_behind g except set s.tree.forest s.tree.stack unimplied has
+pops_after g except set s unimplied has = free_after g except set s.tree.forest s.tree.stack unimplied has
 
 -- the current node of a name that nothing lowest has may be popped
 current_free : (g : Guard) (set : Elements) (b : Building) (ns : List ℕ) →

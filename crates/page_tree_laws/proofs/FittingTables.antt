@@ -1,7 +1,7 @@
 -- Tags in tables, their captions and groups of columns: their rows fit (WHATWG HTML, 13.2.6.4.9 to 13.2.6.4.12). A
 -- clause on any other group is checked group by group.
-use Rattle.std.proofs.Common.{◌≡◌, ℕ, inl, Bool, true, false, if◌then◌else◌, List, [], ◌∷◌, Option, None, Some, codes}
-use Rattle.std.proofs.Common.{refl, subst}
+use Rattle.std.proofs.Common.{◌≡◌, if◌then◌else◌, [], ◌∷◌, Bool, List, None, Option, Some, codes, false, inl, refl}
+use Rattle.std.proofs.Common.{subst, true, ℕ}
 use Rattle.tree_forest.specs.Forest.{Holds}
 use Rattle.html_lexemes.specs.declared.token.Tag.{Tag}
 use Rattle.tree_names.specs.ElementSets.{table_context, table_scope_barriers}
@@ -13,7 +13,7 @@ use Rattle.page_tree_laws.proofs.FittingCases.{builds_on, fits_if, fostered_fits
 use Rattle.page_tree_laws.proofs.FittingEnds.{body_end_fits}
 use Rattle.page_tree_laws.proofs.FittingHeads.{grants, head_start_fits, html_fits, template_fits}
 use Rattle.page_tree_laws.proofs.FittingStarts.{body_start_fits}
-use Rattle.page_tree_laws.proofs.FittingSteps.{BuildFacts, above_base, group_unbarred, new_free, pops_behind}
+use Rattle.page_tree_laws.proofs.FittingSteps.{BuildFacts, above_base, group_unbarred, new_free, pops_after}
 use Rattle.page_tree_laws.proofs.FittingSteps.{pops_current, unbarred}
 use Rattle.page_tree_laws.proofs.GroupNames.{all_pass, fails, unimplied_words}
 use Rattle.page_tree_laws.proofs.Guards.{Guard, HasFree, IsKept, StopsAtBase, base_names}
@@ -189,7 +189,7 @@ table_end_fits g facts group t s e can close = fostered_end g facts group t s e 
 -- a caption is closed
 caption_closed_fits : (g : Guard) → BuildFacts g → (s : State) → CanBuild g s →
     in_table_scope (one (codes "caption")) s ≡ true → Fits g (pop_to (one (codes "caption"))) (act (imply_but none) s)
-caption_closed_fits g facts s can is = pops_behind g none (one (codes "caption")) s
+caption_closed_fits g facts s can is = pops_after g none (one (codes "caption")) s
     (unimplied_words none (codes "caption" ∷ []) refl) (table_scope_free g facts (codes "caption" ∷ []) s can refl is)
 
 past_caption_fits : (g : Guard) → BuildFacts g → (s : State) → CanBuild g s → FitsRow g s (past_caption s)

@@ -12,7 +12,7 @@ use Rattle.rules_table.specs.Actions.{out_of_text, reconstruct, refuse_frameset,
 use Rattle.rules_table.specs.Asking.{all_are, collects_text}
 use Rattle.rules_table.specs.InBody.{in_body_text}
 use Rattle.rules_table.specs.InTable.{in_table_text_other, in_table_text_row}
-use Rattle.rules_table.specs.Rows.{TextRow, dropped, for_character, for_null, is_white_space, kept, said_behind}
+use Rattle.rules_table.specs.Rows.{TextRow, dropped, for_character, for_null, is_white_space, kept, said_after}
 use Rattle.rules_table.specs.Rows.{then_again}
 use Rattle.rules_table.specs.State.{State}
 use Rattle.rules_table.specs.Table.{comment_row, doctype_row, text_row}
@@ -22,13 +22,13 @@ use Rattle.tree_predicates.specs.declared.modes.InsertionMode.TheVariants as mod
 -- a character, by what a mode makes of it
 pub character_fits : (g : Guard) (s : State) (c : ℕ) (r : TextRow) → FitsText g s r → FitsRow g s (for_character c r)
 character_fits g s c dropped fit = tt
-character_fits g s c (said_behind actions) fit = fit_append g actions (say (c ∷ []) ∷ []) s fit (λ d. (tt, tt))
+character_fits g s c (said_after actions) fit = fit_append g actions (say (c ∷ []) ∷ []) s fit (λ d. (tt, tt))
 character_fits g s c kept fit = (tt, tt)
 character_fits g s c (then_again actions) fit = fit
 
 pub null_fits : (g : Guard) (s : State) (r : TextRow) → FitsText g s r → FitsRow g s (for_null r)
 null_fits g s dropped fit = tt
-null_fits g s (said_behind actions) fit = tt
+null_fits g s (said_after actions) fit = tt
 null_fits g s kept fit = tt
 null_fits g s (then_again actions) fit = fit
 

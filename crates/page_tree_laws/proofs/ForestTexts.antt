@@ -1,13 +1,11 @@
 -- What changes of a forest make of its texts and of the names of its elements.
-use Rattle.std.proofs.Common.{◌≡◌, ℕ, ◌+◌, ◌≤◌, ◌<◌, zero, suc, Bool, true, false, List, [], ◌∷◌, map}
-use Rattle.std.proofs.Common.{refl, ap, ◌∙◌, arith}
-use Rattle.tree_forest.specs.Changes.{changed, childless, contents_number, detached, kind_with, made}
-use Rattle.tree_forest.specs.Changes.{made_element, reparented, with_attributes, with_more}
-use Rattle.tree_forest.specs.Changes.{without_child}
+use Rattle.std.proofs.Common.{◌≡◌, ◌+◌, ◌≤◌, ◌<◌, [], ◌∷◌, ◌∙◌, Bool, List, ap, arith, false, map, refl, suc, true}
+use Rattle.std.proofs.Common.{zero, ℕ}
+use Rattle.tree_forest.specs.Changes.{changed, childless, contents_number, detached, kind_with, made, made_element}
+use Rattle.tree_forest.specs.Changes.{reparented, with_attributes, with_more, without_child}
 use Rattle.tree_forest.specs.Forest.{Forest, Holds, Kind, Node, children_at, comment, doctype, document, element}
 use Rattle.tree_forest.specs.Forest.{element_of, instruction, name_of, nodes, text}
-use Rattle.tree_forest.specs.Places.{Place, before, behind, below, in_front, put_node}
-use Rattle.tree_forest.specs.Places.{with_doctype}
+use Rattle.tree_forest.specs.Places.{Place, before, below, in_front, put_node, trailing, with_doctype}
 use Rattle.html_lexemes.specs.declared.names.Attribute.{Attribute}
 use Rattle.html_lexemes.specs.declared.names.QualName.{QualName}
 use Rattle.page_tree_laws.specs.KeptText.{characters_of, how_often, in_texts}
@@ -95,7 +93,7 @@ mapped_follows h texts names f = record {
 
 -- what moves nodes
 pub put_follows : (place : Place) (n : ℕ) (f : Forest) → Follows f (put_node place n f)
-put_follows (below p) n f = changed_follows (behind n) (λ x. refl) (λ x. refl) p f
+put_follows (below p) n f = changed_follows (trailing n) (λ x. refl) (λ x. refl) p f
 put_follows (before s) n f = mapped_follows (in_front s n) (λ x. refl) (λ x. refl) f
 
 pub detached_follows : (n : ℕ) (f : Forest) → Follows f (detached n f)

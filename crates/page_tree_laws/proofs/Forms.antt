@@ -2,7 +2,7 @@
 use Rattle.std.proofs.Common.{◌≡◌, ℕ, ◌≤◌, suc, List, [], ◌∷◌, Option, None, Some, arith}
 use Rattle.tree_forest.specs.Forest.{Holds, nodes}
 use Rattle.tree_forest.specs.Changes.{made_element}
-use Rattle.tree_forest.specs.Places.{below, put_node}
+use Rattle.tree_forest.specs.Places.{Place, below, put_node}
 use Rattle.html_tree_state.specs.Building.{Building}
 use Rattle.html_tree_state.specs.Formatting.{name_for}
 use Rattle.html_tree_state.specs.Insertions.{here, with_element}
@@ -16,7 +16,6 @@ use Rattle.rules_table.specs.declared.target.Target.TheVariants as targets
 use Rattle.html_lexemes.specs.declared.names.Attribute.{Attribute}
 use Rattle.html_lexemes.specs.declared.names.QualName.{QualName}
 use Rattle.html_lexemes.specs.declared.token.Tag.{Tag}
-use Rattle.tree_forest.specs.Places.{Place}
 use Rattle.tree_predicates.specs.Attributes.{is_html_annotation}
 
 abbrev pub IsFormed : State → Type 0

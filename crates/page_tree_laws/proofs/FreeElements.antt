@@ -1,7 +1,6 @@
 -- Elements that are free: those of a set that are open or in scope, those that are listed, and those that are new.
-use Rattle.std.proofs.Common.{◌≡◌, ℕ, ◌⊎◌, inl, inr, Bool, true, false, if◌then◌else◌, List, [], ◌∷◌, Option, None}
-use Rattle.std.proofs.Common.{Some}
-use Rattle.std.proofs.Common.{refl}
+use Rattle.std.proofs.Common.{◌≡◌, ◌⊎◌, if◌then◌else◌, [], ◌∷◌, Bool, List, None, Option, Some, false, inl, inr, refl}
+use Rattle.std.proofs.Common.{true, ℕ}
 use Rattle.tree_formatting.specs.Entries.{Entry, formatted, is_named, last_named, marker}
 use Rattle.tree_forest.specs.Forest.{Forest, name_of}
 use Rattle.tree_forest.specs.Orders.{IsIn}

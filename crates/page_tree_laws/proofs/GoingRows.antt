@@ -1,6 +1,6 @@
 -- What a mark comes to where the body stands and no frameset may come, and in a page of frames.
-use Rattle.std.proofs.Common.{◌≡◌, ℕ, ◌||◌, inl, inr, Bool, true, false, List, codes, bytes_eq}
-use Rattle.std.proofs.Common.{refl, sym, ap, subst, ◌∙◌}
+use Rattle.std.proofs.Common.{◌≡◌, ◌||◌, ◌∙◌, Bool, List, ap, bytes_eq, codes, false, inl, inr, refl, subst, sym, true}
+use Rattle.std.proofs.Common.{ℕ}
 use Rattle.tree_names.specs.Sets.{is_html, is_one_of}
 use Rattle.tree_names.specs.Wanted.{one}
 use Rattle.page_tree_laws.proofs.Acting.{ResetsWell, act_held}
@@ -12,9 +12,8 @@ use Rattle.page_tree_laws.proofs.FittingRows.{after_frameset_row, after_head_row
 use Rattle.page_tree_laws.proofs.FittingRules.{rule_fits}
 use Rattle.page_tree_laws.proofs.FittingSteps.{BuildFacts, RowFacts, StackFacts}
 use Rattle.page_tree_laws.proofs.FreeElements.{listed_is_free, open_has_free, scope_has_free}
-use Rattle.page_tree_laws.proofs.GuardKinds.{AreApart, early_names, frames_guard}
-use Rattle.page_tree_laws.proofs.GuardKinds.{frames_guards, going_guard, going_guards}
-use Rattle.page_tree_laws.proofs.GuardKinds.{is_of_frames, root_title, third_title}
+use Rattle.page_tree_laws.proofs.GuardKinds.{AreApart, early_names, frames_guard, frames_guards, going_guard}
+use Rattle.page_tree_laws.proofs.GuardKinds.{going_guards, is_of_frames, root_title, third_title}
 use Rattle.page_tree_laws.proofs.GuardModes.{frames_resets, going_resets}
 use Rattle.page_tree_laws.proofs.Guards.{Guard, IsAboveBase, IsGuard, base_names, may_stand}
 use Rattle.page_tree_laws.proofs.Phases.{IsBuilt, going_on, of_frames}
@@ -27,9 +26,8 @@ use Rattle.rules_table.specs.Actions.{act, act_all, break_out, is_text}
 use Rattle.rules_table.specs.Rows.{Row, again, asks, done}
 use Rattle.rules_table.specs.Rule.{rule}
 use Rattle.rules_table.specs.Settling.{entered}
-use Rattle.rules_table.specs.State.{Ask, Mark, State, character, comment}
-use Rattle.rules_table.specs.State.{doctype, encoding, end_of_file, finish, nothing}
-use Rattle.rules_table.specs.State.{null, plaintext, raw, script, start}
+use Rattle.rules_table.specs.State.{Ask, State, TreeToken, character, comment, doctype, encoding, end_of_file, finish}
+use Rattle.rules_table.specs.State.{nothing, null, plaintext, raw, script, start}
 use Rattle.rules_table.specs.Table.{row}
 use Rattle.tree_predicates.specs.declared.modes.InsertionMode.{InsertionMode}
 use Rattle.tree_predicates.specs.declared.modes.InsertionMode.TheVariants as modes
@@ -145,7 +143,7 @@ module _ (root head body : ℕ) (apart : AreApart root head body) where
     unframed = refused;
   }
 
-  closes_mark : (mark : Mark) (s : State) → IsHeld (going root head body) s →
+  closes_mark : (mark : TreeToken) (s : State) → IsHeld (going root head body) s →
       ClosesMark (going root head body) s mark
   closes_mark (character c) s held = tt
   closes_mark null s held = tt
@@ -158,7 +156,7 @@ module _ (root head body : ℕ) (apart : AreApart root head body) where
     by group = tt
   closes_mark end_of_file s held = going_closes s held
 
-  going_row : (m : InsertionMode) (mark : Mark) (s : State) → s.mode ≡ m → may_stand m ≡ true → is_text s.mode ≡ false →
+  going_row : (m : InsertionMode) (mark : TreeToken) (s : State) → s.mode ≡ m → may_stand m ≡ true → is_text s.mode ≡ false →
       IsHeld (going root head body) s → s.frameset_ok ≡ false →
       FitsRow (going root head body) s (row m mark s)
   going_row modes.AfterHead mark s at is off held refused = after_head_row (going root head body)
@@ -206,13 +204,13 @@ module _ (root head body : ℕ) (apart : AreApart root head body) where
       IsHeld (going root head body) (act break_out s)
   broken_held s held = act_held (going root head body) going_is going_reset break_out s tt held
 
-  going_broken : (mark : Mark) (s : State) → is_text s.mode ≡ false →
+  going_broken : (mark : TreeToken) (s : State) → is_text s.mode ≡ false →
       IsHeld (going root head body) s → s.frameset_ok ≡ false →
       FitsRow (going root head body) (act break_out s) (row s.mode mark (act break_out s))
   going_broken mark s off held refused = going_row s.mode mark (act break_out s) (broken_mode s)
       (held.mode off) (ap is_text (broken_mode s) ∙ off) (broken_held s held) (broken_refused s refused)
 
-  pub going_rule : (is_framed : Bool) (mark : Mark) (s : State) → IsSteady (going root head body) s →
+  pub going_rule : (is_framed : Bool) (mark : TreeToken) (s : State) → IsSteady (going root head body) s →
       s.frameset_ok ≡ false → ComesTo (IsBuilt is_framed) s (rule mark s)
   going_rule is_framed mark s steady refused = by (is_text s.mode) refl where
     by : (b : Bool) → is_text s.mode ≡ b → ComesTo (IsBuilt is_framed) s (rule mark s)
@@ -241,7 +239,7 @@ module _ (root head frameset : ℕ) (apart : AreApart root head frameset) where
   frames_facts : FrameFacts (frames_guard root head frameset)
   frames_facts = record { is_open = refl; frameset = refl; after_frameset = refl; after_after_frameset = refl }
 
-  frames_row : (m : InsertionMode) (mark : Mark) (s : State) → is_of_frames m ≡ true →
+  frames_row : (m : InsertionMode) (mark : TreeToken) (s : State) → is_of_frames m ≡ true →
       IsHeld (frames_guard root head frameset) s → FitsRow (frames_guard root head frameset) s (row m mark s)
   frames_row modes.InFrameset mark s is held =
       in_frameset_row (frames_guard root head frameset) frames_rows frames_facts mark s held
@@ -253,18 +251,18 @@ module _ (root head frameset : ℕ) (apart : AreApart root head frameset) where
 
   frames_keeps : (is_framed : Bool) (r : Row) (s : State) → is_framed ≡ true →
       Keeps (frames_guard root head frameset) frames_is frames_reset s r → ComesTo (IsBuilt is_framed) s r
-  frames_keeps is_framed (done actions) s told keeps = (of_frames root head frameset apart told keeps)
-  frames_keeps is_framed (asks ask actions) s told keeps = (of_frames root head frameset apart told keeps)
-  frames_keeps is_framed (again actions) s told keeps = (of_frames root head frameset apart told keeps)
+  frames_keeps is_framed (done actions) s emitted keeps = (of_frames root head frameset apart emitted keeps)
+  frames_keeps is_framed (asks ask actions) s emitted keeps = (of_frames root head frameset apart emitted keeps)
+  frames_keeps is_framed (again actions) s emitted keeps = (of_frames root head frameset apart emitted keeps)
 
-  pub frames_rule : (is_framed : Bool) (mark : Mark) (s : State) → is_framed ≡ true →
+  pub frames_rule : (is_framed : Bool) (mark : TreeToken) (s : State) → is_framed ≡ true →
       IsSteady (frames_guard root head frameset) s → ComesTo (IsBuilt is_framed) s (rule mark s)
-  frames_rule is_framed mark s told steady = by (is_text s.mode) refl where
+  frames_rule is_framed mark s emitted steady = by (is_text s.mode) refl where
     by : (b : Bool) → is_text s.mode ≡ b → ComesTo (IsBuilt is_framed) s (rule mark s)
     by true e = text_rule (frames_guard root head frameset) frames_is frames_reset s (only_text s.mode e) steady
         (IsBuilt is_framed)
-        (λ actions even now. (of_frames root head frameset apart told now)) mark
-    by false off = frames_keeps is_framed (rule mark s) s told
+        (λ actions even now. (of_frames root head frameset apart emitted now)) mark
+    by false off = frames_keeps is_framed (rule mark s) s emitted
         (row_keeps (frames_guard root head frameset) frames_is frames_reset (rule mark s) s
         (rule_fits (frames_guard root head frameset) mark s
         (frames_row s.mode mark s (steady.held.mode off) steady.held)

@@ -1,6 +1,6 @@
 -- Names of tags by their groups, and sets of names that have none in common: each is known by a test on its words.
-use Rattle.std.proofs.Common.{◌≡◌, ℕ, ◌||◌, ◌&&◌, not, Bool, true, false, if◌then◌else◌, List, [], ◌∷◌, bytes_eq, codes}
-use Rattle.std.proofs.Common.{refl, sym, ap, subst, ◌∙◌}
+use Rattle.std.proofs.Common.{◌≡◌, ◌||◌, ◌&&◌, if◌then◌else◌, [], ◌∷◌, ◌∙◌, Bool, List, ap, bytes_eq, codes, false, not}
+use Rattle.std.proofs.Common.{refl, subst, sym, true, ℕ}
 use Rattle.std.proofs.lemmas.Slice.Eq.{bytes_eq-Decides}
 use Rattle.html_lexemes.specs.declared.names.Namespace.{Namespace}
 use Rattle.html_lexemes.specs.declared.names.Namespace.TheVariants.{Html, MathMl, Other, Svg}

@@ -1,6 +1,6 @@
 -- A group of columns: it is opened in a table, and closed before anything is opened in it (WHATWG HTML, 13.2.6.4.12).
-use Rattle.std.proofs.Common.{◌≡◌, ℕ, zero, suc, ◌+◌, inl, inr, ◌||◌, Bool, true, false, if◌then◌else◌, List, []}
-use Rattle.std.proofs.Common.{◌∷◌, Option, None, Some, bytes_eq, codes, refl, sym, ap, subst, ◌∙◌, arith}
+use Rattle.std.proofs.Common.{◌≡◌, ◌+◌, ◌||◌, if◌then◌else◌, [], ◌∷◌, ◌∙◌, Bool, List, None, Option, Some, ap, arith}
+use Rattle.std.proofs.Common.{bytes_eq, codes, false, inl, inr, refl, subst, suc, sym, true, zero, ℕ}
 use Rattle.std.proofs.lemmas.Slice.Eq.{bytes_eq-Decides}
 use Rattle.tree_forest.specs.Changes.{with_attributes}
 use Rattle.tree_forest.specs.Forest.{Forest, Holds, comment, is_in, name_of}
@@ -19,8 +19,8 @@ use Rattle.tree_names.specs.Wanted.{one}
 use Rattle.tree_names.specs.Groups.{tag_group}
 use Rattle.tree_names.specs.declared.group.TagGroup.{TagGroup}
 use Rattle.tree_names.specs.declared.group.TagGroup.TheVariants as groups
-use Rattle.rules_table.specs.Actions.{act, act_all, add_attributes, at_place, go_to, in_html, insert}
-use Rattle.rules_table.specs.Actions.{insert_comment, insert_named, insert_void, is_current, say}
+use Rattle.rules_table.specs.Actions.{act, act_all, add_attributes, at_place, go_to, in_html, insert, insert_comment}
+use Rattle.rules_table.specs.Actions.{insert_named, insert_void, is_current, say}
 use Rattle.rules_table.specs.Asking.{first_opened, has_template}
 use Rattle.rules_table.specs.HtmlTag.{given_to, html_start}
 use Rattle.rules_table.specs.InColumnGroup.{column_group_closed, in_column_group_end, in_column_group_start}
@@ -28,8 +28,8 @@ use Rattle.rules_table.specs.InColumnGroup.{in_column_group_text, is_in_column_g
 use Rattle.rules_table.specs.InTable.{clear_to_table}
 use Rattle.rules_table.specs.Rows.{Row, again, done, dropped, for_character, for_null, ignored, is_white_space}
 use Rattle.rules_table.specs.Rows.{then_again}
-use Rattle.rules_table.specs.State.{Mark, State, character, comment as commented, doctype, end_of_file, finish, null}
-use Rattle.rules_table.specs.State.{start}
+use Rattle.rules_table.specs.State.{State, TreeToken, character, comment as commented, doctype, end_of_file, finish}
+use Rattle.rules_table.specs.State.{null, start}
 use Rattle.rules_table.specs.Table.{row}
 use Rattle.tree_predicates.specs.declared.modes.InsertionMode.TheVariants as modes
 use Rattle.page_tree_laws.proofs.CleanWords.{AreFree, IsClean, element_put, free_follows, says_free}
@@ -37,7 +37,7 @@ use Rattle.page_tree_laws.proofs.ForestTexts.{Follows, attributes_follow, follow
 use Rattle.page_tree_laws.proofs.MildRows.{IsPlainGroup}
 use Rattle.page_tree_laws.proofs.PlainStates.{Comes, Gives, IsGroupTree, IsInGroup, comes_same, gives_if, in_group}
 use Rattle.page_tree_laws.proofs.PlainStates.{stays, usually}
-use Rattle.page_tree_laws.proofs.TextRows.{told_by}
+use Rattle.page_tree_laws.proofs.TextRows.{emitted_by}
 use Rattle.page_tree_laws.proofs.UsualModes.{IsUsual, mild_meek, no_template}
 use Rattle.page_tree_laws.proofs.WordTexts.{words_said}
 use Rattle.page_tree_laws.specs.KeptText.{how_often, in_texts}
@@ -93,9 +93,9 @@ opened_by name attributes s is usual =
     }))
     (element_put (here s.tree) name attributes s.tree).follows.texts refl
 
-comes_behind : (s s' s'' : State) → IsUsual s → IsUsual s' →
+comes_after : (s s' s'' : State) → IsUsual s → IsUsual s' →
     ((c : ℕ) → in_texts c s'.tree.forest ≡ in_texts c s.tree.forest) → Comes [] s' s'' → Comes [] s s''
-comes_behind s s' s'' usual next texts comes = record {
+comes_after s s' s'' usual next texts comes = record {
   plain = comes.plain;
   grows = λ c is. comes.grows c is ∙ ap (λ k. k + 0) (same_amount (in_texts c s.tree.forest)
       (in_texts c s'.tree.forest) (how_often c s.pending) (how_often c s'.pending) (texts c)
@@ -109,7 +109,7 @@ pub group_started : (t : Tag) (s : State) → is_element_of (one (codes "colgrou
 unfolding act
 group_started t s is usual =
     let first = mild_meek clear_to_table tt s usual in
-    comes_behind s (act clear_to_table s) (act_all (clear_to_table ∷ insert at_place t
+    comes_after s (act clear_to_table s) (act_all (clear_to_table ∷ insert at_place t
     ∷ go_to modes.InColumnGroup ∷ []) s) usual first.usual first.texts
     (opened_by (name_for t) t.attrs (act clear_to_table s) is first.usual)
 
@@ -118,7 +118,7 @@ pub group_supplied : (s : State) → IsUsual s →
 unfolding act
 group_supplied s usual =
     let first = mild_meek clear_to_table tt s usual in
-    comes_behind s (act clear_to_table s) (act_all (clear_to_table ∷ insert_named (codes "colgroup")
+    comes_after s (act clear_to_table s) (act_all (clear_to_table ∷ insert_named (codes "colgroup")
     ∷ go_to modes.InColumnGroup ∷ []) s) usual first.usual first.texts
     (opened_by (in_html (codes "colgroup")) [] (act clear_to_table s) refl first.usual)
 
@@ -278,7 +278,7 @@ null_by true s group = group_closed s group
 null_by false s group = stays s (in_group group)
 
 -- the names of start tags that are emitted
-abbrev pub IsPlainMark : Mark → Type 0
+abbrev pub IsPlainMark : TreeToken → Type 0
 IsPlainMark (character d) = Unit {0}
 IsPlainMark null = Unit {0}
 IsPlainMark (commented cs) = Unit {0}
@@ -287,8 +287,8 @@ IsPlainMark (start t) = IsPlainGroup (tag_group t.name) t.name
 IsPlainMark (finish t) = Unit {0}
 IsPlainMark end_of_file = Unit {0}
 
-pub group_row : (mark : Mark) (s : State) → IsPlainMark mark → IsInGroup s →
-    Gives (told_by mark) s (row modes.InColumnGroup mark s)
+pub group_row : (mark : TreeToken) (s : State) → IsPlainMark mark → IsInGroup s →
+    Gives (emitted_by mark) s (row modes.InColumnGroup mark s)
 group_row (character d) s is group = group_text (is_white_space d) d s group
 group_row null s is group = null_by (is_in_column_group s) s group
 group_row (commented cs) s is group = comment_stays cs s group

@@ -1,7 +1,7 @@
 -- The guards of a page: while the head stands; while the body may still give way to a frameset; after that; and of
 -- frames.
-use Rattle.std.proofs.Common.{◌≡◌, ℕ, ◌==◌, inl, inr, ◌||◌, Bool, true, false, if◌then◌else◌, List, []}
-use Rattle.std.proofs.Common.{◌∷◌, bytes_eq, codes, refl, sym, ap, subst, ◌∙◌, eqb-true, eq-eqb}
+use Rattle.std.proofs.Common.{◌≡◌, ◌==◌, ◌||◌, if◌then◌else◌, [], ◌∷◌, ◌∙◌, Bool, List, ap, bytes_eq, codes, eq-eqb}
+use Rattle.std.proofs.Common.{eqb-true, false, inl, inr, refl, subst, sym, true, ℕ}
 use Rattle.std.proofs.lemmas.Slice.Eq.{bytes_eq-Decides}
 use Rattle.tree_forest.specs.Forest.{no_element}
 use Rattle.tree_forest.specs.Orders.{IsIn}

@@ -1,6 +1,6 @@
 -- Which mode the open elements ask for after the head: one that may stand there.
-use Rattle.std.proofs.Common.{◌≡◌, ℕ, ◌⊎◌, inl, inr, ◌||◌, ◌&&◌, Bool, true, false, if◌then◌else◌, List, [], ◌∷◌, map}
-use Rattle.std.proofs.Common.{Option, None, Some, not, option_map, codes, refl, sym, ap, subst, ◌∙◌}
+use Rattle.std.proofs.Common.{◌≡◌, ◌⊎◌, ◌||◌, ◌&&◌, if◌then◌else◌, [], ◌∷◌, ◌∙◌, Bool, List, None, Option, Some, ap}
+use Rattle.std.proofs.Common.{codes, false, inl, inr, map, not, option_map, refl, subst, sym, true, ℕ}
 use Rattle.tree_forest.specs.Forest.{Forest, name_of}
 use Rattle.tree_forest.specs.Orders.{IsIn}
 use Rattle.html_lexemes.specs.declared.names.Namespace.{Namespace}
@@ -10,11 +10,10 @@ use Rattle.tree_names.specs.ElementSets.{table_cells, table_sections}
 use Rattle.tree_names.specs.Sets.{html_elements, is_element_of, is_html}
 use Rattle.page_tree_laws.proofs.Acting.{ResetsWell}
 use Rattle.page_tree_laws.proofs.Fits.{AreLater}
-use Rattle.page_tree_laws.proofs.Guards.{is_of_templates}
-use Rattle.page_tree_laws.proofs.GuardKinds.{AreApart, body_guard, early_names, frames_guard, going_guard}
-use Rattle.page_tree_laws.proofs.GuardKinds.{root_title, third_title}
-use Rattle.page_tree_laws.proofs.Guards.{Guard, IsFree, IsGuarded, IsStack, bare, may_stand, nearer}
+use Rattle.page_tree_laws.proofs.Guards.{Guard, IsFree, IsGuarded, IsStack, bare, is_of_templates, may_stand, nearer}
 use Rattle.page_tree_laws.proofs.Guards.{stands}
+use Rattle.page_tree_laws.proofs.GuardKinds.{AreApart, body_guard, early_names, frames_guard, going_guard, root_title}
+use Rattle.page_tree_laws.proofs.GuardKinds.{third_title}
 use Rattle.rules_table.specs.Actions.{but_text, first_mode, in_html, is_known, is_of_text, mode_by_elements}
 use Rattle.rules_table.specs.State.{State}
 use Rattle.tree_predicates.specs.Modes.{first_case, mode_above, or_else, own_mode, reset_mode, root_mode}

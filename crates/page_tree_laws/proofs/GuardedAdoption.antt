@@ -1,17 +1,15 @@
 -- The adoption agency keeps a guarded tree guarded.
-use Rattle.std.proofs.Common.{◌≡◌, ℕ, zero, suc, inl, inr, ◌==◌, Bool, true, false, not, if◌then◌else◌}
-use Rattle.std.proofs.Common.{List, [], ◌∷◌, Option, None, Some, refl, eq-eqb, eqb-true}
+use Rattle.std.proofs.Common.{◌≡◌, ◌==◌, if◌then◌else◌, [], ◌∷◌, Bool, List, None, Option, Some, eq-eqb, eqb-true}
+use Rattle.std.proofs.Common.{false, inl, inr, not, refl, suc, true, zero, ℕ}
 use Rattle.std.proofs.lemmas.Bool.{cond_both}
 use Rattle.tree_formatting.specs.Entries.{is_listed, last_named, tag_in}
 use Rattle.tree_forest.specs.Forest.{Forest, is_in, name_of}
 use Rattle.tree_forest.specs.Orders.{IsIn}
 use Rattle.tree_forest.proofs.Relations.{either}
 use Rattle.html_lexemes.specs.declared.token.Tag.{Tag}
-use Rattle.html_tree_state.specs.Adoption.{Turn, Walk, adopted, adoption, after_turn, again}
-use Rattle.html_tree_state.specs.Adoption.{furthest_block, is_current_unlisted, last_special, or_itself, other_end}
-use Rattle.html_tree_state.specs.Adoption.{over}
-use Rattle.html_tree_state.specs.Adoption.{placed, popped_with, turn, turn_for, turn_with, turn_with_block, turns}
-use Rattle.html_tree_state.specs.Adoption.{walked}
+use Rattle.html_tree_state.specs.Adoption.{Turn, Walk, adopted, adoption, after_turn, again, furthest_block}
+use Rattle.html_tree_state.specs.Adoption.{is_current_unlisted, last_special, or_itself, other_end, over, placed}
+use Rattle.html_tree_state.specs.Adoption.{popped_with, turn, turn_for, turn_with, turn_with_block, turns, walked}
 use Rattle.html_tree_state.specs.Building.{Building}
 use Rattle.html_tree_state.specs.Formatting.{reconstructed, unlisted}
 use Rattle.html_tree_state.specs.OpenElements.{current_of, farther, nearer, up_to}

@@ -1,15 +1,14 @@
 -- Changes of a forest that keep what is guarded in it: nodes are made, taken out, and lose their children to others.
-use Rattle.std.proofs.Common.{◌≡◌, ℕ, ◌+◌, ◌≤◌, suc, ◌⊎◌, inl, inr, Bool, true, false, List, [], ◌∷◌, ◌++◌}
-use Rattle.std.proofs.Common.{None, Some, refl, sym, ap, subst, ◌∙◌, map, arith}
-use Rattle.tree_forest.specs.Changes.{changed, childless, contents_number, detached, left_out, made}
-use Rattle.tree_forest.specs.Changes.{made_element, reparented, with_more}
-use Rattle.tree_forest.specs.Changes.{without_child}
-use Rattle.tree_forest.specs.Forest.{Forest, Holds, Kind, children_at, contents_of, document}
-use Rattle.tree_forest.specs.Forest.{element, element_of, kind_at, nodes}
+use Rattle.std.proofs.Common.{◌≡◌, ◌+◌, ◌≤◌, ◌⊎◌, [], ◌∷◌, ◌++◌, ◌∙◌, Bool, List, None, Some, ap, arith, false, inl}
+use Rattle.std.proofs.Common.{inr, map, refl, subst, suc, sym, true, ℕ}
+use Rattle.tree_forest.specs.Changes.{changed, childless, contents_number, detached, left_out, made, made_element}
+use Rattle.tree_forest.specs.Changes.{reparented, with_more, without_child}
+use Rattle.tree_forest.specs.Forest.{Forest, Holds, Kind, children_at, contents_of, document, element, element_of}
+use Rattle.tree_forest.specs.Forest.{kind_at, nodes}
 use Rattle.tree_forest.specs.Orders.{IsIn}
-use Rattle.tree_forest.specs.Places.{Place, before, behind, below, in_front, put_node}
-use Rattle.tree_forest.proofs.Nodes.{changed_has, children_made, contents_made, contents_made_at, kept}
-use Rattle.tree_forest.proofs.Nodes.{kind_made, mapped_at, same_some, size_changed, size_made, size_mapped}
+use Rattle.tree_forest.specs.Places.{Place, before, trailing, below, in_front, put_node}
+use Rattle.tree_forest.proofs.Nodes.{changed_has, children_made, contents_made, contents_made_at, kept, kind_made}
+use Rattle.tree_forest.proofs.Nodes.{mapped_at, same_some, size_changed, size_made, size_mapped}
 use Rattle.tree_forest.proofs.Numbers.{in_append, in_left_out}
 use Rattle.tree_forest.proofs.Relations.{either}
 use Rattle.html_lexemes.specs.declared.names.Attribute.{Attribute}
@@ -85,8 +84,8 @@ made_kept g kind f plain held =
 two_larger : (x y z : ℕ) → y ≡ suc x → z ≡ suc y → x ≤ z
 two_larger x y z e k = omega (arith, e, k)
 
-behind_it : (x y z c : ℕ) → y ≡ suc x → z ≡ suc y → x + 1 ≡ c → (x ≤ c) × (suc c ≤ z)
-behind_it x y z c e k l = (omega (arith, e, k, l), omega (arith, e, k, l))
+after_it : (x y z c : ℕ) → y ≡ suc x → z ≡ suc y → x + 1 ≡ c → (x ≤ c) × (suc c ≤ z)
+after_it x y z c e k l = (omega (arith, e, k, l), omega (arith, e, k, l))
 
 held_more : (n x y : ℕ) → suc n ≤ x → y ≡ suc x → suc n ≤ y
 held_more n x y h e = omega (arith, h, e)
@@ -98,7 +97,7 @@ template_contents : (f h : Forest) (kind : Kind) → (element_of kind).contents 
     ⊎ ((n ≡ nodes f) × (contents_of n (made kind f) ≡ (element_of kind).contents))) →
     (contents_of n f ≡ Some c) ⊎ ((nodes f ≤ c) × Holds c h)
 template_contents f h kind template n c size e (inl same) = inl (sym same ∙ e)
-template_contents f h kind template n c size e (inr new) = inr (behind_it (nodes f) (nodes (made kind f)) (nodes h) c
+template_contents f h kind template n c size e (inr new) = inr (after_it (nodes f) (nodes (made kind f)) (nodes h) c
     (size_made kind f) size (same_some (nodes f + 1) c (sym template ∙ (sym new.1 ∙ e))))
 
 template_like : (f : Forest) (kind : Kind) → (element_of kind).contents ≡ Some (nodes f + 1) →
@@ -148,10 +147,10 @@ leaf_put g (before s) c f none there held =
     (elements 0 ∙ held.below_document) (elements g.root ∙ held.below_root) held.closed
     (before_within s c f there held.within) held
 leaf_put g (below p) c f none there held =
-    let elements : (q : ℕ) → elements_among f (children_at q (changed p (behind c) f)) ≡ child_elements q f = λ q.
-    changed_has (λ x. elements_among f x.children ≡ child_elements q f) q p (behind c) f refl
+    let elements : (q : ℕ) → elements_among f (children_at q (changed p (trailing c) f)) ≡ child_elements q f = λ q.
+    changed_has (λ x. elements_among f x.children ≡ child_elements q f) q p (trailing c) f refl
     (λ e. elements_append f (children_at q f) (c ∷ []) ∙ no_more f c (child_elements q f) none) in
-    same_kinds g f (changed p (behind c) f) held.others
-    (λ n. kept (λ x. x.kind) (behind c) p n f (λ x. refl)) (size_changed p (behind c) f)
+    same_kinds g f (changed p (trailing c) f) held.others
+    (λ n. kept (λ x. x.kind) (trailing c) p n f (λ x. refl)) (size_changed p (trailing c) f)
     (elements 0 ∙ held.below_document) (elements g.root ∙ held.below_root) held.closed
     (below_within p c f there held.within) held

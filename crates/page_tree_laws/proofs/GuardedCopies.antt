@@ -7,8 +7,7 @@ use Rattle.tree_forest.specs.Forest.{Forest, Holds, nodes}
 use Rattle.tree_forest.specs.Orders.{IsIn}
 use Rattle.tree_forest.specs.Places.{below, put_node}
 use Rattle.html_lexemes.specs.declared.token.Tag.{Tag}
-use Rattle.html_tree_state.specs.Adoption.{Walk, copied, entries_at, out_of_place, placed, stepped, taken_over}
-use Rattle.html_tree_state.specs.Adoption.{walked}
+use Rattle.html_tree_state.specs.Adoption.{Walk, copied, entries_at, out_of_place, placed, stepped, taken_over, walked}
 use Rattle.html_tree_state.specs.Building.{Building}
 use Rattle.html_tree_state.specs.Formatting.{made_for, name_for, unlisted}
 use Rattle.html_tree_state.specs.Insertions.{place_for}

@@ -1,11 +1,10 @@
 -- What holds of all listed elements holds after changes of the list of active formatting elements.
-use Rattle.std.proofs.Common.{◌≡◌, ℕ, inl, inr, ◌==◌, Bool, true, false, if◌then◌else◌, List, [], ◌∷◌, Option}
-use Rattle.std.proofs.Common.{None, Some, refl, sym, subst, eqb-true}
+use Rattle.std.proofs.Common.{◌≡◌, ◌==◌, if◌then◌else◌, [], ◌∷◌, Bool, List, None, Option, Some, eqb-true, false, inl}
+use Rattle.std.proofs.Common.{inr, refl, subst, sym, true, ℕ}
 use Rattle.std.specs.Bool.{nat_lt}
 use Rattle.tree_formatting.specs.Alike.{count_alike}
 use Rattle.tree_formatting.specs.Entries.{Entry, before_marker, formatted, given_to, handed_over, is_listed, is_of}
-use Rattle.tree_formatting.specs.Entries.{marker}
-use Rattle.tree_formatting.specs.Entries.{moved_behind, put_behind, tag_in, up_to_marker, without_entry}
+use Rattle.tree_formatting.specs.Entries.{marker, moved_after, put_after, tag_in, up_to_marker, without_entry}
 use Rattle.tree_formatting.specs.Pushing.{pushed, without_earliest}
 use Rattle.html_lexemes.specs.declared.token.Tag.{Tag}
 use Rattle.html_tree_state.specs.Adoption.{entries_at}
@@ -39,17 +38,17 @@ all_weaker P Q follows [] all = tt
 all_weaker P Q follows (marker ∷ rest) all = all_weaker P Q follows rest all
 all_weaker P Q follows (formatted n tag ∷ rest) all = (follows n tag all.0, all_weaker P Q follows rest all.1)
 
-moved_none : (n m after : ℕ) (es : List Entry) → tag_in n es ≡ None → moved_behind n m after es ≡ es
+moved_none : (n m after : ℕ) (es : List Entry) → tag_in n es ≡ None → moved_after n m after es ≡ es
 moved_none n m after es e = rw e
 
 moved_some : (n m after : ℕ) (tag : Tag) (es : List Entry) → tag_in n es ≡ Some tag →
-    moved_behind n m after es ≡ put_behind after (formatted m tag) (without_entry n es)
+    moved_after n m after es ≡ put_after after (formatted m tag) (without_entry n es)
 moved_some n m after tag es e = rw e
 
 module _ (P : ℕ → Tag → Type 0) where
-  pub all_behind : (entry : Entry) (rest : List Entry) → AreAll P (entry ∷ rest) → AreAll P rest
-  all_behind marker rest all = all
-  all_behind (formatted n tag) rest all = all.1
+  pub all_after : (entry : Entry) (rest : List Entry) → AreAll P (entry ∷ rest) → AreAll P rest
+  all_after marker rest all = all
+  all_after (formatted n tag) rest all = all.1
 
   all_on : (entry : Entry) (rest more : List Entry) → AreAll P (entry ∷ rest) → AreAll P more → AreAll P (entry ∷ more)
   all_on marker rest more all further = further
@@ -66,8 +65,8 @@ module _ (P : ℕ → Tag → Type 0) where
 
   pub all_without : (n : ℕ) (es : List Entry) → AreAll P es → AreAll P (without_entry n es)
   all_without n [] all = all
-  all_without n (e ∷ rest) all = all_by (is_of n e) rest (e ∷ without_entry n rest) (all_behind e rest all)
-      (all_on e rest (without_entry n rest) all (all_without n rest (all_behind e rest all)))
+  all_without n (e ∷ rest) all = all_by (is_of n e) rest (e ∷ without_entry n rest) (all_after e rest all)
+      (all_on e rest (without_entry n rest) all (all_without n rest (all_after e rest all)))
 
   earliest_all : (tag : Tag) (es : List Entry) → AreAll P es → AreAll P (without_earliest tag es)
   earliest_all tag [] all = all
@@ -84,12 +83,12 @@ module _ (P : ℕ → Tag → Type 0) where
   pub all_to_make : (stack : List ℕ) (es : List Entry) → AreAll P es → AreAll P (to_make stack es)
   all_to_make stack [] all = all
   all_to_make stack (e ∷ rest) all = all_by (is_kept stack e) [] (e ∷ to_make stack rest) tt
-      (all_on e rest (to_make stack rest) all (all_to_make stack rest (all_behind e rest all)))
+      (all_on e rest (to_make stack rest) all (all_to_make stack rest (all_after e rest all)))
 
   pub all_already : (stack : List ℕ) (es : List Entry) → AreAll P es → AreAll P (made_already stack es)
   all_already stack [] all = all
   all_already stack (e ∷ rest) all = all_by (is_kept stack e) (e ∷ rest) (made_already stack rest) all
-      (all_already stack rest (all_behind e rest all))
+      (all_already stack rest (all_after e rest all))
 
   -- the element that a tag is found for
   tag_by : (m n : ℕ) (b : Bool) (held : Tag) (rest : List Entry) (tag : Tag) (later : Option Tag) → (m == n) ≡ b →
@@ -114,25 +113,25 @@ module _ (P : ℕ → Tag → Type 0) where
     all_handed n [] all = all
     all_handed n (e ∷ rest) all = all_by (is_of n e) (given_to m e ∷ rest) (e ∷ handed_over n m rest)
         (given_all e rest all)
-        (all_on e rest (handed_over n m rest) all (all_handed n rest (all_behind e rest all)))
+        (all_on e rest (handed_over n m rest) all (all_handed n rest (all_after e rest all)))
 
-    put_behind_all : (n : ℕ) (tag : Tag) (es : List Entry) → P m tag → AreAll P es →
-        AreAll P (put_behind n (formatted m tag) es)
-    put_behind_all n tag [] is all = (is, tt)
-    put_behind_all n tag (e ∷ rest) is all =
-        all_by (is_of n e) (formatted m tag ∷ e ∷ rest) (e ∷ put_behind n (formatted m tag) rest) (is, all)
-        (all_on e rest (put_behind n (formatted m tag) rest) all
-        (put_behind_all n tag rest is (all_behind e rest all)))
+    put_after_all : (n : ℕ) (tag : Tag) (es : List Entry) → P m tag → AreAll P es →
+        AreAll P (put_after n (formatted m tag) es)
+    put_after_all n tag [] is all = (is, tt)
+    put_after_all n tag (e ∷ rest) is all =
+        all_by (is_of n e) (formatted m tag ∷ e ∷ rest) (e ∷ put_after n (formatted m tag) rest) (is, all)
+        (all_on e rest (put_after n (formatted m tag) rest) all
+        (put_after_all n tag rest is (all_after e rest all)))
 
     moved_by : (n after : ℕ) (es : List Entry) (found : Option Tag) → tag_in n es ≡ found → AreAll P es →
-        AreAll P (moved_behind n m after es)
+        AreAll P (moved_after n m after es)
     moved_by n after es None e all = subst (AreAll P) (sym (moved_none n m after es e)) all
     moved_by n after es (Some tag) e all = subst (AreAll P) (sym (moved_some n m after tag es e))
-        (put_behind_all after tag (without_entry n es) (gives n tag (all_tag n es tag all e)) (all_without n es all))
+        (put_after_all after tag (without_entry n es) (gives n tag (all_tag n es tag all e)) (all_without n es all))
 
     pub all_entries_at : (bookmark : Option ℕ) (n : ℕ) (es : List Entry) → AreAll P es →
         AreAll P (entries_at bookmark n m es)
     all_entries_at None n es all = all_handed n es all
     all_entries_at (Some after) n es all =
-        all_by (is_listed after (up_to_marker (without_entry n es))) (moved_behind n m after es) (handed_over n m es)
+        all_by (is_listed after (up_to_marker (without_entry n es))) (moved_after n m after es) (handed_over n m es)
         (moved_by n after es (tag_in n es) refl all) (all_handed n es all)

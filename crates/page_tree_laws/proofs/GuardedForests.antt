@@ -1,17 +1,16 @@
 -- What keeps the guarded nodes of a forest: where child elements stay, and where a node is put at a good place.
-use Rattle.std.proofs.Common.{◌≡◌, ℕ, ◌≤◌, suc, ◌⊎◌, inl, inr, Bool, true, false, List, [], ◌∷◌}
-use Rattle.std.proofs.Common.{◌++◌, Some, refl, sym, ap, subst, ◌∙◌, map, arith}
+use Rattle.std.proofs.Common.{◌≡◌, ◌≤◌, ◌⊎◌, [], ◌∷◌, ◌++◌, ◌∙◌, Bool, List, Some, ap, arith, false, inl, inr, map}
+use Rattle.std.proofs.Common.{refl, subst, suc, sym, true, ℕ}
 use Rattle.tree_forest.specs.Changes.{changed}
-use Rattle.tree_forest.specs.Forest.{Forest, Holds, Node, children_at, contents_of, element_of}
-use Rattle.tree_forest.specs.Forest.{kind_at, name_of, node_at, nodes}
+use Rattle.tree_forest.specs.Forest.{Forest, Holds, Node, children_at, contents_of, element_of, kind_at, name_of}
+use Rattle.tree_forest.specs.Forest.{node_at, nodes}
 use Rattle.tree_forest.specs.Orders.{IsIn}
-use Rattle.tree_forest.specs.Places.{Place, behind, in_front, put_before, put_node}
-use Rattle.tree_forest.proofs.Nodes.{changed_at, changed_has, kept}
-use Rattle.tree_forest.proofs.Nodes.{mapped_at, size_changed, size_mapped}
+use Rattle.tree_forest.specs.Places.{Place, trailing, in_front, put_before, put_node}
+use Rattle.tree_forest.proofs.Nodes.{changed_at, changed_has, kept, mapped_at, size_changed, size_mapped}
 use Rattle.tree_forest.proofs.Numbers.{in_append, in_one, in_put_before}
 use Rattle.tree_forest.proofs.Relations.{either}
-use Rattle.page_tree_laws.proofs.ElementLists.{elements_append, elements_leaf, elements_put}
-use Rattle.page_tree_laws.proofs.ElementLists.{elements_same, put_before_front, regrouped}
+use Rattle.page_tree_laws.proofs.ElementLists.{elements_append, elements_leaf, elements_put, elements_same}
+use Rattle.page_tree_laws.proofs.ElementLists.{put_before_front, regrouped}
 use Rattle.page_tree_laws.proofs.Guards.{Guard, IsFree, IsGoodPlace, IsKeptForest, beside, within}
 use Rattle.page_tree_laws.specs.Skeleton.{child_elements, elements_among, is_element}
 
@@ -133,27 +132,27 @@ changed_kept g p h f no_document no_root kinds news held =
 
 -- a node is put below another one
 pub below_within : (p c : ℕ) (f : Forest) → Holds c f → ((q d : ℕ) → IsIn d (children_at q f) → Holds d f) →
-    (q d : ℕ) → IsIn d (children_at q (changed p (behind c) f)) → Holds d f
-below_within p c f there each q d = changed_has (λ x. IsIn d x.children → Holds d f) q p (behind c) f (each q d)
+    (q d : ℕ) → IsIn d (children_at q (changed p (trailing c) f)) → Holds d f
+below_within p c f there each q d = changed_has (λ x. IsIn d x.children → Holds d f) q p (trailing c) f (each q d)
     (λ e i. either (each q d) (λ new. subst (λ m. Holds m f) (sym (in_one d c new)) there)
     (in_append d (children_at q f) (c ∷ []) i))
 
 below_by : (g : Guard) (p c : ℕ) (f : Forest) → ¬ (p ≡ 0) → (g.is_open ≡ false → ¬ (p ≡ g.root)) → Holds c f →
     IsKeptForest g f →
-    ((node_at g.root (changed p (behind c) f) ≡ node_at g.root f)
-    ⊎ ((g.root ≡ p) × (node_at g.root (changed p (behind c) f) ≡ behind c (node_at g.root f)))) →
-    KeptOn g f (changed p (behind c) f)
+    ((node_at g.root (changed p (trailing c) f) ≡ node_at g.root f)
+    ⊎ ((g.root ≡ p) × (node_at g.root (changed p (trailing c) f) ≡ trailing c (node_at g.root f)))) →
+    KeptOn g f (changed p (trailing c) f)
 below_by g p c f no_document no_root there held (inl same) =
-    same_kinds g f (changed p (behind c) f) held.others
-    (λ n. kept (λ x. x.kind) (behind c) p n f (λ x. refl)) (size_changed p (behind c) f)
-    (ap (elements_among f) (changed_has (λ x. x.children ≡ children_at 0 f) 0 p (behind c) f refl
+    same_kinds g f (changed p (trailing c) f) held.others
+    (λ n. kept (λ x. x.kind) (trailing c) p n f (λ x. refl)) (size_changed p (trailing c) f)
+    (ap (elements_among f) (changed_has (λ x. x.children ≡ children_at 0 f) 0 p (trailing c) f refl
     (λ e. absurd (no_document (sym e)))) ∙ held.below_document)
     (ap (λ x. elements_among f x.children) same ∙ held.below_root)
     held.closed (below_within p c f there held.within) held
 below_by g p c f no_document no_root there held (inr more) =
-    same_kinds g f (changed p (behind c) f) (held.others ++ elements_among f (c ∷ []))
-    (λ n. kept (λ x. x.kind) (behind c) p n f (λ x. refl)) (size_changed p (behind c) f)
-    (ap (elements_among f) (changed_has (λ x. x.children ≡ children_at 0 f) 0 p (behind c) f refl
+    same_kinds g f (changed p (trailing c) f) (held.others ++ elements_among f (c ∷ []))
+    (λ n. kept (λ x. x.kind) (trailing c) p n f (λ x. refl)) (size_changed p (trailing c) f)
+    (ap (elements_among f) (changed_has (λ x. x.children ≡ children_at 0 f) 0 p (trailing c) f refl
     (λ e. absurd (no_document (sym e)))) ∙ held.below_document)
     (ap (λ x. elements_among f x.children) more.1 ∙ (elements_append f (children_at g.root f) (c ∷ [])
     ∙ (ap (λ ns. ns ++ elements_among f (c ∷ [])) held.below_root
@@ -161,18 +160,18 @@ below_by g p c f no_document no_root there held (inr more) =
     (λ shut. absurd (no_root shut (sym more.0))) (below_within p c f there held.within) held
 
 below_kept : (g : Guard) (p c : ℕ) (f : Forest) → ¬ (p ≡ 0) → (g.is_open ≡ false → ¬ (p ≡ g.root)) → Holds c f →
-    IsKeptForest g f → KeptOn g f (changed p (behind c) f)
+    IsKeptForest g f → KeptOn g f (changed p (trailing c) f)
 below_kept g p c f no_document no_root there held =
-    below_by g p c f no_document no_root there held (changed_at g.root p (behind c) f)
+    below_by g p c f no_document no_root there held (changed_at g.root p (trailing c) f)
 
 -- a free node is none of the first child elements of the root, nor the root
-in_behind : (n : ℕ) (ms ns : List ℕ) → IsIn n ms → IsIn n (ms ++ ns)
-in_behind n [] ns i = absurd i
-in_behind n (m ∷ ms) ns (inl e) = inl e
-in_behind n (m ∷ ms) ns (inr i) = inr (in_behind n ms ns i)
+in_after : (n : ℕ) (ms ns : List ℕ) → IsIn n ms → IsIn n (ms ++ ns)
+in_after n [] ns i = absurd i
+in_after n (m ∷ ms) ns (inl e) = inl e
+in_after n (m ∷ ms) ns (inr i) = inr (in_after n ms ns i)
 
 pub no_first : (g : Guard) (n : ℕ) → IsFree g n → ¬ (IsIn n g.firsts)
-no_first g n free i = free (inr (inr (inr (in_behind n g.firsts g.lowest i))))
+no_first g n free i = free (inr (inr (inr (in_after n g.firsts g.lowest i))))
 
 pub no_root_alone : (g : Guard) (n : ℕ) → IsFree g n → ¬ (IsIn n (g.root ∷ []))
 no_root_alone g n free (inl e) = free (inr (inl e))

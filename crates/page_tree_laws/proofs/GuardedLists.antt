@@ -12,7 +12,7 @@ use Rattle.html_tree_state.specs.Insertions.{here}
 use Rattle.page_tree_laws.proofs.CleanWords.{element_put}
 use Rattle.tree_names.specs.Sets.{is_one_of}
 use Rattle.tree_names.specs.TagSets.{formatting}
-use Rattle.page_tree_laws.proofs.GuardedEntries.{AreAll, all_already, all_before_marker, all_behind, all_of, all_pushed}
+use Rattle.page_tree_laws.proofs.GuardedEntries.{AreAll, all_after, all_already, all_before_marker, all_of, all_pushed}
 use Rattle.page_tree_laws.proofs.GuardedEntries.{all_to_make, all_weaker, all_without, each_of}
 use Rattle.page_tree_laws.proofs.GuardedForests.{IsLike, new_is_free, still_held}
 use Rattle.page_tree_laws.proofs.GuardedPlaces.{here_good}
@@ -100,7 +100,7 @@ all_anew : (entries : List Entry) (g : Guard) (b : Building) → IsGuard g → I
     AreAll IsOfFormatting entries → IsGuarded g (all_made_anew entries b)
 all_anew [] g b guard is all = is
 all_anew (entry ∷ earlier) g b guard is all = entry_anew entry earlier g (all_made_anew earlier b) guard
-    (all_anew earlier g b guard is (all_behind IsOfFormatting entry earlier all)) all
+    (all_anew earlier g b guard is (all_after IsOfFormatting entry earlier all)) all
 
 pub reconstructed_guarded : (g : Guard) (b : Building) → IsGuard g → IsGuarded g b → IsGuarded g (reconstructed b)
 reconstructed_guarded g b guard is =

@@ -1,7 +1,7 @@
 -- The place where a node is inserted is a good one: it leaves the child elements of the document, and those that the
 -- root's begin with.
-use Rattle.std.proofs.Common.{◌≡◌, ℕ, suc, zero, inl, Bool, true, false, ◌&&◌, if◌then◌else◌, List, [], ◌∷◌}
-use Rattle.std.proofs.Common.{Option, None, Some, codes, refl, ap, subst, ◌∙◌, arith}
+use Rattle.std.proofs.Common.{◌≡◌, ◌&&◌, if◌then◌else◌, [], ◌∷◌, ◌∙◌, Bool, List, None, Option, Some, ap, arith, codes}
+use Rattle.std.proofs.Common.{false, inl, refl, subst, suc, true, zero, ℕ}
 use Rattle.std.proofs.lemmas.Bool.{cond_both}
 use Rattle.tree_forest.specs.Forest.{Forest, Holds, Kind, Node, comment, contents_of, doctype, document, element}
 use Rattle.tree_forest.specs.Forest.{element_of, instruction, kind_at, name_of, parent_of, text}
@@ -17,8 +17,7 @@ use Rattle.page_tree_laws.proofs.BaseNames.{base_named, base_no_table}
 use Rattle.page_tree_laws.proofs.GuardedForests.{IsLike}
 use Rattle.page_tree_laws.proofs.GuardedStacks.{FitsBelow, at_root, base_kept, free_fits, never_both, stack_current}
 use Rattle.page_tree_laws.proofs.Guards.{Guard, IsFree, IsGoodPlace, IsGuard, IsGuarded, IsKeptForest, IsStack, bare}
-use Rattle.page_tree_laws.proofs.Guards.{beside}
-use Rattle.page_tree_laws.proofs.Guards.{stands, within}
+use Rattle.page_tree_laws.proofs.Guards.{beside, stands, within}
 use Rattle.page_tree_laws.proofs.Guards as guards
 use Rattle.page_tree_laws.specs.Skeleton.{is_element}
 

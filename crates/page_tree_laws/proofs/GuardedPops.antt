@@ -1,6 +1,6 @@
 -- What pops and closes open elements keeps a guarded tree guarded.
-use Rattle.std.proofs.Common.{◌≡◌, ℕ, inl, inr, ◌==◌, Bool, true, false, not, if◌then◌else◌, List, [], ◌∷◌}
-use Rattle.std.proofs.Common.{Option, None, Some, codes, refl, sym, ap, subst, ◌∙◌, eq-eqb}
+use Rattle.std.proofs.Common.{◌≡◌, ◌==◌, if◌then◌else◌, [], ◌∷◌, ◌∙◌, Bool, List, None, Option, Some, ap, codes, eq-eqb}
+use Rattle.std.proofs.Common.{false, inl, inr, not, refl, subst, sym, true, ℕ}
 use Rattle.std.proofs.lemmas.Bool.{cond_both}
 use Rattle.tree_forest.specs.Changes.{left_out}
 use Rattle.tree_forest.specs.Forest.{Forest, is_integration_point, name_of}
@@ -11,8 +11,8 @@ use Rattle.html_tree_state.specs.Foreign.{broken_out, closed_by_foreign_end, fro
 use Rattle.html_tree_state.specs.OpenElements.{below_current, below_first, farther, from_first}
 use Rattle.html_tree_state.specs.Scopes.{has_item, implied, is_in_scope, popped, popped_down_to, popped_to, taken_off}
 use Rattle.html_tree_state.specs.Scopes.{with_closed_item, with_closed_p, without_implied}
-use Rattle.page_tree_laws.proofs.CleanLists.{AreLeft, below_current_left, below_first_left, farther_left, from_first_left}
-use Rattle.page_tree_laws.proofs.CleanLists.{from_html_left, left_out_left, without_implied_left}
+use Rattle.page_tree_laws.proofs.CleanLists.{AreLeft, below_current_left, below_first_left, farther_left}
+use Rattle.page_tree_laws.proofs.CleanLists.{from_first_left, from_html_left, left_out_left, without_implied_left}
 use Rattle.tree_names.specs.ElementSets.{button_scope_barriers, special_elements}
 use Rattle.tree_names.specs.Sets.{Elements, is_element_of, is_html}
 use Rattle.tree_names.specs.Wanted.{is_implied, one}

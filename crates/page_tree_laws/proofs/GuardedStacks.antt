@@ -1,6 +1,6 @@
 -- What pops open elements, takes one off, or puts one among them, leaves a stack whose lowest elements are guarded.
-use Rattle.std.proofs.Common.{◌≡◌, ℕ, ◌⊎◌, inl, inr, ◌==◌, Bool, true, false, if◌then◌else◌, List, [], ◌∷◌, ◌++◌}
-use Rattle.std.proofs.Common.{refl, sym, ap, subst, ◌∙◌, eqb-true, eq-eqb}
+use Rattle.std.proofs.Common.{◌≡◌, ◌⊎◌, ◌==◌, if◌then◌else◌, [], ◌∷◌, ◌++◌, ◌∙◌, Bool, List, ap, eq-eqb, eqb-true}
+use Rattle.std.proofs.Common.{false, inl, inr, refl, subst, sym, true, ℕ}
 use Rattle.std.proofs.lemmas.Bool.{cond-true, cond_both}
 use Rattle.tree_forest.specs.Changes.{left_out}
 use Rattle.tree_forest.specs.Orders.{IsIn}

@@ -1,9 +1,9 @@
 -- Texts, comments, doctypes and attributes leave alone what is guarded in a forest, wherever they are put.
-use Rattle.std.proofs.Common.{◌≡◌, ℕ, ◌≤◌, suc, inl, List, [], ◌∷◌, Option, false, None, Some}
-use Rattle.std.proofs.Common.{refl, sym, ap, subst, ◌∙◌, arith}
+use Rattle.std.proofs.Common.{◌≡◌, ◌≤◌, [], ◌∷◌, ◌∙◌, List, None, Option, Some, ap, arith, false, inl, refl, subst, suc}
+use Rattle.std.proofs.Common.{sym, ℕ}
 use Rattle.tree_forest.specs.Changes.{changed, kind_with, made, saying, saying_kind, with_attributes}
-use Rattle.tree_forest.specs.Forest.{Forest, Kind, Node, comment, doctype, document, element, element_of}
-use Rattle.tree_forest.specs.Forest.{instruction, kind_at, nodes, text, text_of}
+use Rattle.tree_forest.specs.Forest.{Forest, Kind, Node, comment, doctype, document, element, element_of, instruction}
+use Rattle.tree_forest.specs.Forest.{kind_at, nodes, text, text_of}
 use Rattle.tree_forest.specs.Places.{Place, neighbour, put_node, put_words}
 use Rattle.tree_forest.proofs.Nodes.{contents_said, contents_with, kept, kind_new, size_changed, size_made}
 use Rattle.html_lexemes.specs.declared.names.Attribute.{Attribute}
@@ -85,10 +85,10 @@ new_text : (place : Place) (c : ℕ) (cs : List ℕ) (f : Forest) → neighbour 
     put_words place (c ∷ cs) f ≡ put_node place (nodes f) (made (text (c ∷ cs)) f)
 new_text place c cs f e = rw e
 
-new_text_behind : (place : Place) (c : ℕ) (cs : List ℕ) (n : ℕ) (f : Forest) → neighbour place f ≡ Some n →
+new_text_after : (place : Place) (c : ℕ) (cs : List ℕ) (n : ℕ) (f : Forest) → neighbour place f ≡ Some n →
     text_of (kind_at n f) ≡ None →
     put_words place (c ∷ cs) f ≡ put_node place (nodes f) (made (text (c ∷ cs)) f)
-new_text_behind place c cs n f e k = rw (e, k)
+new_text_after place c cs n f e k = rw (e, k)
 
 text_more : (place : Place) (c : ℕ) (cs said : List ℕ) (n : ℕ) (f : Forest) → neighbour place f ≡ Some n →
     text_of (kind_at n f) ≡ Some said → put_words place (c ∷ cs) f ≡ changed n (saying (c ∷ cs)) f
@@ -97,7 +97,7 @@ text_more place c cs said n f e k = rw (e, k)
 by_text : (g : Guard) (place : Place) (c : ℕ) (cs : List ℕ) (n : ℕ) (f : Forest) (said : Option (List ℕ)) →
     neighbour place f ≡ Some n → text_of (kind_at n f) ≡ said → IsKeptForest g f →
     KeptOn g f (put_words place (c ∷ cs) f)
-by_text g place c cs n f None e k held = subst (KeptOn g f) (sym (new_text_behind place c cs n f e k))
+by_text g place c cs n f None e k held = subst (KeptOn g f) (sym (new_text_after place c cs n f e k))
     (leaf_kept g place (text (c ∷ cs)) f refl refl held)
 by_text g place c cs n f (Some said) e k held = subst (KeptOn g f) (sym (text_more place c cs said n f e k))
     (said_kept g n (c ∷ cs) f held)

@@ -1,7 +1,6 @@
 -- Words that change the nodes keep a guarded tree guarded: elements, comments, doctypes and characters are inserted,
 -- attributes are added, and a free node is taken out.
-use Rattle.std.proofs.Common.{◌≡◌, ℕ, inl, inr, Bool, false, List, ◌∷◌, Some}
-use Rattle.std.proofs.Common.{codes, refl, sym, ap, subst, ◌∙◌}
+use Rattle.std.proofs.Common.{◌≡◌, ◌∷◌, ◌∙◌, Bool, List, Some, ap, codes, false, inl, inr, refl, subst, sym, ℕ}
 use Rattle.std.proofs.lemmas.Bool.{cond_both}
 use Rattle.tree_formatting.specs.Entries.{Entry}
 use Rattle.tree_forest.specs.Changes.{detached, made, made_element, with_attributes}

@@ -1,6 +1,6 @@
 -- Text is kept by a mark that is taken, by an item, and by the items of a page.
-use Rattle.std.proofs.Common.{◌≡◌, ℕ, zero, suc, ◌+◌, ◌<◌, ◌==◌, ◌&&◌, Bool, true, false, if◌then◌else◌, List, [], ◌∷◌}
-use Rattle.std.proofs.Common.{eqb-true, fold, refl, sym, ap, subst, ◌∙◌, arith}
+use Rattle.std.proofs.Common.{◌≡◌, ◌+◌, ◌<◌, ◌==◌, ◌&&◌, if◌then◌else◌, [], ◌∷◌, ◌∙◌, Bool, List, ap, arith, eqb-true}
+use Rattle.std.proofs.Common.{false, fold, refl, subst, suc, sym, true, zero, ℕ}
 use Rattle.token_grammar.specs.Items.{Item}
 use Rattle.token_grammar.specs.Items as items
 use Rattle.html_lexemes.specs.declared.token.Tag.{Tag}
@@ -13,7 +13,7 @@ use Rattle.rules_table.specs.Rows.{Row, again, asks, done, is_white_space}
 use Rattle.rules_table.specs.Rule.{rule}
 use Rattle.rules_table.specs.Settling.{Ready, Settled, entered, given_by, mark_by, over, past_tag, step, taken}
 use Rattle.rules_table.specs.Settling.{taken_character, taken_tag}
-use Rattle.rules_table.specs.State.{Ask, Mark, State, character, comment, doctype, encoding, end_of_file, nothing}
+use Rattle.rules_table.specs.State.{Ask, State, TreeToken, character, comment, doctype, encoding, end_of_file, nothing}
 use Rattle.rules_table.specs.State.{null, plaintext, raw, script}
 use Rattle.rules_table.specs.Welcome.{ActionsKeep}
 use Rattle.page_tree_laws.proofs.CleanLists.{AreFormatting}
@@ -21,16 +21,17 @@ use Rattle.page_tree_laws.proofs.CleanWords.{AreFree}
 use Rattle.page_tree_laws.proofs.GroupRows.{IsPlainMark}
 use Rattle.page_tree_laws.proofs.KeptRule.{rule_gives}
 use Rattle.page_tree_laws.proofs.PlainNames.{plain_group}
-use Rattle.page_tree_laws.proofs.PlainStates.{Comes, Gives, IsPlain, amount, in_group, in_text, space_goes, stays, usually}
-use Rattle.page_tree_laws.proofs.TextRows.{told_by}
+use Rattle.page_tree_laws.proofs.PlainStates.{Comes, Gives, IsPlain, amount, in_group, in_text, space_goes, stays}
+use Rattle.page_tree_laws.proofs.PlainStates.{usually}
+use Rattle.page_tree_laws.proofs.TextRows.{emitted_by}
 use Rattle.page_tree_laws.proofs.UsualModes.{is_usual}
-use Rattle.page_tree_laws.specs.KeptText.{IsAtBeginning, KeepsText, TellsPlainTags, how_often, in_texts, in_told, is_kept}
-use Rattle.page_tree_laws.specs.KeptText.{is_plain, is_plain_name, text_told}
+use Rattle.page_tree_laws.specs.KeptText.{EmitsPlainTags, IsAtBeginning, KeepsText, how_often, in_emitted, in_texts}
+use Rattle.page_tree_laws.specs.KeptText.{is_kept, is_plain, is_plain_name, text_emitted}
 
 -- the laws that this crate stands on
 pub record Facts : Type 0 where
-  pub comes : (mark : Mark) (s : State) → Ready s → taken mark s ≡ given_by (rule mark s) s (taken mark)
-  pub falls : (mark : Mark) (s : State) → Ready s → Falls mark s (rule mark s)
+  pub comes : (mark : TreeToken) (s : State) → Ready s → taken mark s ≡ given_by (rule mark s) s (taken mark)
+  pub falls : (mark : TreeToken) (s : State) → Ready s → Falls mark s (rule mark s)
   pub actions : ActionsKeep
 
 -- a state that comes of another, between two items
@@ -52,15 +53,15 @@ entered_ready (encoding name) s ready = ready
 then_more : (x y z n m : ℕ) → y ≡ x + n → z ≡ y + m → z ≡ x + (n + m)
 then_more x y z n m e h = omega (arith, e, h)
 
-behind_none : (x y z n : ℕ) → y ≡ x + 0 → z ≡ y + n → z ≡ x + n
-behind_none x y z n e h = omega (arith, e, h)
+after_none : (x y z n : ℕ) → y ≡ x + 0 → z ≡ y + n → z ≡ x + n
+after_none x y z n e h = omega (arith, e, h)
 
-keeps_behind : (cs : List ℕ) (s s' s'' : State) → Comes [] s s' → Keeps cs s' s'' → Keeps cs s s''
-keeps_behind cs s s' s'' first keeps = record {
+keeps_after : (cs : List ℕ) (s s' s'' : State) → Comes [] s s' → Keeps cs s' s'' → Keeps cs s s''
+keeps_after cs s s' s'' first keeps = record {
   ready = keeps.ready;
   comes = record {
     plain = keeps.comes.plain;
-    grows = λ c is. behind_none (amount c s) (amount c s') (amount c s'') (how_often c cs) (first.grows c is)
+    grows = λ c is. after_none (amount c s) (amount c s') (amount c s'') (how_often c cs) (first.grows c is)
         (keeps.comes.grows c is);
   };
 }
@@ -75,32 +76,32 @@ pub none_below : (x : ℕ) → ¬ (x < 0)
 none_below x h = omega (arith, h)
 
 -- what a row gives, where what is taken again keeps text
-given_keeps : ActionsKeep → (mark : Mark) (s : State) (r : Row) (further : State → Settled) → Ready s →
-    Falls mark s r → Gives (told_by mark) s r →
-    ((s' : State) → Ready s' → IsPlain s' → rank mark s' < rank mark s → Keeps (told_by mark) s' (further s').state) →
-    Keeps (told_by mark) s (given_by r s further).state
+given_keeps : ActionsKeep → (mark : TreeToken) (s : State) (r : Row) (further : State → Settled) → Ready s →
+    Falls mark s r → Gives (emitted_by mark) s r →
+    ((s' : State) → Ready s' → IsPlain s' → rank mark s' < rank mark s → Keeps (emitted_by mark) s' (further s').state) →
+    Keeps (emitted_by mark) s (given_by r s further).state
 given_keeps keep mark s (done actions) further ready falls gives more =
     record { ready = all_ready keep actions s ready; comes = gives }
 given_keeps keep mark s (asks ask actions) further ready falls gives more =
     record { ready = entered_ready ask (act_all actions s) (all_ready keep actions s ready); comes = gives }
 given_keeps keep mark s (again actions) further ready falls gives more =
     let next = act_all actions s in
-    keeps_behind (told_by mark) s next (further next).state gives
+    keeps_after (emitted_by mark) s next (further next).state gives
     (more next (all_ready keep actions s ready) gives.plain falls)
 
 module _ (facts : Facts) where
-  taken_within : (k : ℕ) (mark : Mark) (s : State) → rank mark s < k → IsPlainMark mark → Ready s → IsPlain s →
-      Keeps (told_by mark) s (taken mark s).state
+  taken_within : (k : ℕ) (mark : TreeToken) (s : State) → rank mark s < k → IsPlainMark mark → Ready s → IsPlain s →
+      Keeps (emitted_by mark) s (taken mark s).state
   taken_within zero mark s low plain_mark ready plain = absurd (none_below (rank mark s) low)
   taken_within (suc k) mark s low plain_mark ready plain =
-      subst (λ (t : Settled). Keeps (told_by mark) s t.state) (sym (facts.comes mark s ready))
+      subst (λ (t : Settled). Keeps (emitted_by mark) s t.state) (sym (facts.comes mark s ready))
       (given_keeps facts.actions mark s (rule mark s) (taken mark) ready (facts.falls mark s ready)
       (rule_gives mark s plain_mark plain)
       (λ s' ready' plain' down. taken_within k mark s' (further_down (rank mark s') (rank mark s) k down low)
       plain_mark ready' plain'))
 
-  pub taken_keeps : (mark : Mark) (s : State) → IsPlainMark mark → Ready s → IsPlain s →
-      Keeps (told_by mark) s (taken mark s).state
+  pub taken_keeps : (mark : TreeToken) (s : State) → IsPlainMark mark → Ready s → IsPlain s →
+      Keeps (emitted_by mark) s (taken mark s).state
   taken_keeps mark s plain_mark ready plain =
       taken_within (suc (rank mark s)) mark s (just_below (rank mark s)) plain_mark ready plain
 
@@ -190,9 +191,9 @@ plain_mark : (kind : TagKind) (t : Tag) → is_plain_name kind t.name ≡ true �
 plain_mark StartTag t plain = plain_group t.name plain
 plain_mark EndTag t plain = tt
 
-tells_nothing : (kind : TagKind) (t : Tag) → told_by (mark_by kind t) ≡ []
-tells_nothing StartTag t = refl
-tells_nothing EndTag t = refl
+emits_nothing : (kind : TagKind) (t : Tag) → emitted_by (mark_by kind t) ≡ []
+emits_nothing StartTag t = refl
+emits_nothing EndTag t = refl
 
 two_more : (x y z n m : ℕ) → y ≡ x + (n + 0) → z ≡ y + m → z ≡ x + (n + m)
 two_more x y z n m e h = omega (arith, e, h)
@@ -208,9 +209,9 @@ one_by_one d ds s s' s'' first rest = record {
 }
 
 module _ (facts : Facts) where
-  past_taken : (mark : Mark) (s : State) → IsPlainMark mark → Ready s → IsPlain s →
-      Keeps (told_by mark) s (taken mark (past_tag s)).state
-  past_taken mark s is ready plain = from_past (told_by mark) s (taken mark (past_tag s)).state
+  past_taken : (mark : TreeToken) (s : State) → IsPlainMark mark → Ready s → IsPlain s →
+      Keeps (emitted_by mark) s (taken mark (past_tag s)).state
+  past_taken mark s is ready plain = from_past (emitted_by mark) s (taken mark (past_tag s)).state
       (taken_keeps facts mark (past_tag s) is (past_ready s ready) (past_plain s plain))
 
   character_keeps : (d : ℕ) (s : State) → Ready s → IsPlain s → Keeps (d ∷ []) s (taken_character s d)
@@ -225,11 +226,11 @@ module _ (facts : Facts) where
       (characters_keep ds (taken_character s d) first.ready first.comes.plain)
 
   pub step_keeps : (item : Item) (s : State) → is_plain item ≡ true → Ready s → IsPlain s →
-      Keeps (text_told item) s (step s item)
+      Keeps (text_emitted item) s (step s item)
   step_keeps (items.characters cs) s is ready plain = characters_keep cs s ready plain
   step_keeps items.null_character s is ready plain = past_taken null s tt ready plain
   step_keeps (items.tag t) s is ready plain =
-      subst (λ cs. Keeps cs s (taken_tag t s).state) (tells_nothing t.kind t)
+      subst (λ cs. Keeps cs s (taken_tag t s).state) (emits_nothing t.kind t)
       (past_taken (mark_by t.kind t) s (plain_mark t.kind t is) ready plain)
   step_keeps (items.comment cs) s is ready plain = past_taken (comment cs) s tt ready plain
   step_keeps (items.doctype d) s is ready plain = past_taken (doctype d) s tt ready plain
@@ -241,18 +242,18 @@ module _ (facts : Facts) where
       to_over [] s (taken end_of_file (past_tag s)).state (past_taken end_of_file s tt ready plain)
 
   -- and the items of a page
-  pub record KeepsAll (told : List Item) (s s' : State) : Type 0 where
+  pub record KeepsAll (emitted : List Item) (s s' : State) : Type 0 where
     pub ready : Ready s'
     pub plain : IsPlain s'
-    pub grows : (c : ℕ) → is_kept c ≡ true → amount c s' ≡ amount c s + in_told c told
+    pub grows : (c : ℕ) → is_kept c ≡ true → amount c s' ≡ amount c s + in_emitted c emitted
 
-  none_told : (x : ℕ) → x ≡ x + 0
-  none_told x = omega arith
+  none_emitted : (x : ℕ) → x ≡ x + 0
+  none_emitted x = omega arith
 
-  pub items_keep : (told : List Item) (s : State) → TellsPlainTags told → Ready s → IsPlain s →
-      KeepsAll told s (fold step s told)
+  pub items_keep : (emitted : List Item) (s : State) → EmitsPlainTags emitted → Ready s → IsPlain s →
+      KeepsAll emitted s (fold step s emitted)
   items_keep [] s are ready plain =
-      record { ready = ready; plain = plain; grows = λ c is. none_told (amount c s) }
+      record { ready = ready; plain = plain; grows = λ c is. none_emitted (amount c s) }
   items_keep (item ∷ more) s are ready plain =
       let first = step_keeps item s are.0 ready plain in
       let rest = items_keep more (step s item) are.1 first.ready first.comes.plain in
@@ -260,7 +261,7 @@ module _ (facts : Facts) where
         ready = rest.ready;
         plain = rest.plain;
         grows = λ c is. then_more (amount c s) (amount c (step s item)) (amount c (fold step (step s item) more))
-            (how_often c (text_told item)) (in_told c more) (first.comes.grows c is) (rest.grows c is);
+            (how_often c (text_emitted item)) (in_emitted c more) (first.comes.grows c is) (rest.grows c is);
       }
 
 -- the beginning of a page
@@ -287,7 +288,7 @@ amount_begins c s none = no_waiting (in_texts c s.tree.forest) (how_often c s.pe
   no_waiting : (x p : ℕ) → p ≡ 0 → x + p ≡ x
   no_waiting x p e = omega (arith, e)
 
-pub text_kept : Facts → (s : State) (told : List Item) → IsAtBeginning s → TellsPlainTags told → KeepsText s told
-text_kept facts s told begins are c is =
-    let all = items_keep facts told s are begins.ready (beginning_plain s begins) in
-    all.grows c is ∙ ap (λ k. k + in_told c told) (amount_begins c s begins.pending)
+pub text_kept : Facts → (s : State) (emitted : List Item) → IsAtBeginning s → EmitsPlainTags emitted → KeepsText s emitted
+text_kept facts s emitted begins are c is =
+    let all = items_keep facts emitted s are begins.ready (beginning_plain s begins) in
+    all.grows c is ∙ ap (λ k. k + in_emitted c emitted) (amount_begins c s begins.pending)

@@ -1,7 +1,6 @@
 -- The text of a page is kept, and after its end none of it waits.
-use Rattle.std.proofs.Common.{◌≡◌, ℕ, zero, suc, ◌+◌, ◌<◌, Bool, true, false, if◌then◌else◌, List, [], ◌∷◌, ◌++◌, fold}
-use Rattle.std.proofs.Common.{refl}
-use Rattle.std.proofs.Common.{sym, ap, subst, ◌∙◌, arith}
+use Rattle.std.proofs.Common.{◌≡◌, ◌+◌, ◌<◌, if◌then◌else◌, [], ◌∷◌, ◌++◌, ◌∙◌, Bool, List, ap, arith, false, fold}
+use Rattle.std.proofs.Common.{refl, subst, suc, sym, true, zero, ℕ}
 use Rattle.token_grammar.specs.Items.{Item, tag}
 use Rattle.token_grammar.specs.Items as items
 use Rattle.token_grammar.specs.Reading.{Reading, ends, goes, tags}
@@ -17,14 +16,13 @@ use Rattle.rules_table.specs.Rule.{foreign_row, rule}
 use Rattle.rules_table.specs.Settling.{Ready, Settled, entered, given_by, meaning, past_tag, step, taken}
 use Rattle.rules_table.specs.State.{Ask, State, encoding, end_of_file, nothing, plaintext, raw, script}
 use Rattle.rules_table.specs.Table.{end_of_file_row, row}
-use Rattle.page_tree_laws.proofs.KeptItems.{Facts, KeepsAll, amount_begins, beginning_plain, items_keep, past_plain}
-use Rattle.page_tree_laws.proofs.KeptItems.{past_ready}
-use Rattle.page_tree_laws.proofs.KeptItems.{all_ready, further_down, just_below, none_below, step_keeps}
+use Rattle.page_tree_laws.proofs.KeptItems.{Facts, KeepsAll, all_ready, amount_begins, beginning_plain, further_down}
+use Rattle.page_tree_laws.proofs.KeptItems.{items_keep, just_below, none_below, past_plain, past_ready, step_keeps}
 use Rattle.page_tree_laws.proofs.KeptRule.{rule_gives}
 use Rattle.page_tree_laws.proofs.MildEnds.{file_mild}
 use Rattle.page_tree_laws.proofs.PlainStates.{Gives, IsMildRow, IsPlain, amount, in_group, in_text, usually}
 use Rattle.page_tree_laws.proofs.UsualModes.{IsUsual, all_meek}
-use Rattle.page_tree_laws.specs.KeptText.{TellsPlainTags, how_often, in_told, is_kept, text_told}
+use Rattle.page_tree_laws.specs.KeptText.{EmitsPlainTags, how_often, in_emitted, is_kept, text_emitted}
 use Rattle.page_tree_laws.specs.PageTexts.{KeepsTextOfPage, items_of}
 
 -- after the end of a page no text waits
@@ -69,24 +67,24 @@ given_ends facts s (asks ask actions) further ready falls gives is more = entere
 given_ends facts s (again actions) further ready falls gives is more =
     more (act_all actions s) (all_ready facts.actions actions s ready) gives.plain falls
 
-in_both : (c : ℕ) (xs ys : List Item) → in_told c (xs ++ ys) ≡ in_told c xs + in_told c ys
+in_both : (c : ℕ) (xs ys : List Item) → in_emitted c (xs ++ ys) ≡ in_emitted c xs + in_emitted c ys
 in_both c [] ys = omega arith
-in_both c (x ∷ xs) ys = more_told (how_often c (text_told x)) (in_told c xs) (in_told c ys) (in_told c (xs ++ ys))
+in_both c (x ∷ xs) ys = more_emitted (how_often c (text_emitted x)) (in_emitted c xs) (in_emitted c ys) (in_emitted c (xs ++ ys))
     (in_both c xs ys) where
-      more_told : (h n m k : ℕ) → k ≡ n + m → h + k ≡ (h + n) + m
-      more_told h n m k e = omega (arith, e)
+      more_emitted : (h n m k : ℕ) → k ≡ n + m → h + k ≡ (h + n) + m
+      more_emitted h n m k e = omega (arith, e)
 
-tells_front : (xs ys : List Item) → TellsPlainTags (xs ++ ys) → TellsPlainTags xs
-tells_front [] ys are = tt
-tells_front (x ∷ xs) ys are = (are.0, tells_front xs ys are.1)
+emits_front : (xs ys : List Item) → EmitsPlainTags (xs ++ ys) → EmitsPlainTags xs
+emits_front [] ys are = tt
+emits_front (x ∷ xs) ys are = (are.0, emits_front xs ys are.1)
 
-tells_back : (xs ys : List Item) → TellsPlainTags (xs ++ ys) → TellsPlainTags ys
-tells_back [] ys are = are
-tells_back (x ∷ xs) ys are = tells_back xs ys are.1
+emits_back : (xs ys : List Item) → EmitsPlainTags (xs ++ ys) → EmitsPlainTags ys
+emits_back [] ys are = are
+emits_back (x ∷ xs) ys are = emits_back xs ys are.1
 
 -- what a state comes to at the end of a page
-record IsRead (told : List Item) (s final : State) : Type 0 where
-  pub grows : (c : ℕ) → is_kept c ≡ true → amount c final ≡ amount c s + in_told c told
+record IsRead (emitted : List Item) (s final : State) : Type 0 where
+  pub grows : (c : ℕ) → is_kept c ≡ true → amount c final ≡ amount c s + in_emitted c emitted
   pub none : final.pending ≡ []
 
 both_grow : (x y z n m k : ℕ) → y ≡ x + n → z ≡ y + m → k ≡ n + m → z ≡ x + k
@@ -116,30 +114,30 @@ module _ (facts : Facts) where
       }
 
   -- items are emitted before
-  read_behind : (xs ys : List Item) (s final : State) → KeepsAll facts xs s (fold step s xs) →
+  read_after : (xs ys : List Item) (s final : State) → KeepsAll facts xs s (fold step s xs) →
       IsRead ys (fold step s xs) final → IsRead (xs ++ ys) s final
-  read_behind xs ys s final first rest = record {
-    grows = λ c is. both_grow (amount c s) (amount c (fold step s xs)) (amount c final) (in_told c xs) (in_told c ys)
-        (in_told c (xs ++ ys)) (first.grows c is) (rest.grows c is) (in_both c xs ys);
+  read_after xs ys s final first rest = record {
+    grows = λ c is. both_grow (amount c s) (amount c (fold step s xs)) (amount c final) (in_emitted c xs) (in_emitted c ys)
+        (in_emitted c (xs ++ ys)) (first.grows c is) (rest.grows c is) (in_both c xs ys);
     none = rest.none;
   }
 
   read : {H : Type 0} (table : References) (handle : ℕ → H) (mode : Mode) (s : State) (cs : List ℕ) (final : State)
       (reading : Reading table (meaning handle) mode s cs final) → Ready s → IsPlain s →
-      TellsPlainTags (items_of reading) → IsRead (items_of reading) s final
+      EmitsPlainTags (items_of reading) → IsRead (items_of reading) s final
   read table handle mode s cs final (ends _ _ _ _ nothing_left e) ready plain are = end_read s final e ready plain
-  read table handle mode s cs final (goes _ _ _ told behind rest _ is further) ready plain are =
-      let first = items_keep facts told s (tells_front told (items_of further) are) ready plain in
-      read_behind told (items_of further) s final first
-      (read table handle behind (fold step s told) rest final further first.ready first.plain
-      (tells_back told (items_of further) are))
+  read table handle mode s cs final (goes _ _ _ emitted trailing rest _ is further) ready plain are =
+      let first = items_keep facts emitted s (emits_front emitted (items_of further) are) ready plain in
+      read_after emitted (items_of further) s final first
+      (read table handle trailing (fold step s emitted) rest final further first.ready first.plain
+      (emits_back emitted (items_of further) are))
   read table handle mode s cs final (tags _ _ _ t rest _ is further) ready plain are =
       let first = items_keep facts (tag t ∷ []) s (are.0, tt) ready plain in
-      read_behind (tag t ∷ []) (items_of further) s final first
+      read_after (tag t ∷ []) (items_of further) s final first
       (read table handle _ (step s (tag t)) rest final further first.ready first.plain are.1)
 
   pub page_kept : {H : Type 0} → KeepsTextOfPage H
   page_kept {H} table handle mode s cs final reading begins are c is =
       let read_up = read table handle mode s cs final reading begins.ready (beginning_plain s begins) are in
       sym (amount_begins c final read_up.none) ∙ (read_up.grows c is
-      ∙ ap (λ k. k + in_told c (items_of reading)) (amount_begins c s begins.pending))
+      ∙ ap (λ k. k + in_emitted c (items_of reading)) (amount_begins c s begins.pending))

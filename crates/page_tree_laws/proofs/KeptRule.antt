@@ -1,6 +1,6 @@
 -- What the rule for a mark gives: text is kept, and a plain state stays one.
-use Rattle.std.proofs.Common.{◌≡◌, ℕ, ◌+◌, ◌||◌, Bool, true, false, if◌then◌else◌, List, [], ◌∷◌, Option, None, Some}
-use Rattle.std.proofs.Common.{codes, is_some, refl, sym, ap, subst, ◌∙◌, arith}
+use Rattle.std.proofs.Common.{◌≡◌, ◌+◌, ◌||◌, if◌then◌else◌, [], ◌∷◌, ◌∙◌, Bool, List, None, Option, Some, ap, arith}
+use Rattle.std.proofs.Common.{codes, false, is_some, refl, subst, sym, true, ℕ}
 use Rattle.tree_forest.specs.Forest.{Forest, is_integration_point, name_of}
 use Rattle.html_lexemes.specs.declared.names.Namespace.{Namespace}
 use Rattle.html_lexemes.specs.declared.names.Namespace.TheVariants.{Html, MathMl, Other, Svg}
@@ -21,7 +21,7 @@ use Rattle.rules_table.specs.InTable.{in_table_start}
 use Rattle.rules_table.specs.Rows.{Row, after, again, asks, done, is_white_space}
 use Rattle.rules_table.specs.Rule.{broken_out_row, foreign_end, foreign_row, rule}
 use Rattle.rules_table.specs.Settling.{entered}
-use Rattle.rules_table.specs.State.{Mark, State, character, comment, doctype, end_of_file, finish, null, start}
+use Rattle.rules_table.specs.State.{TreeToken, State, character, comment, doctype, end_of_file, finish, null, start}
 use Rattle.rules_table.specs.Table.{comment_row, doctype_row, end_of_file_row, end_row, row, start_row, text_row}
 use Rattle.tree_predicates.specs.Foreign.{breaks_out, takes_start}
 use Rattle.tree_predicates.specs.declared.modes.InsertionMode.{InsertionMode}
@@ -35,7 +35,7 @@ use Rattle.page_tree_laws.proofs.PlainNames.{colgroup_named, is_column_group}
 use Rattle.page_tree_laws.proofs.PlainStates.{Comes, Gives, GivesText, IsPlain, amount, gives_if, in_group, in_text}
 use Rattle.page_tree_laws.proofs.PlainStates.{mild_gives, of_character, of_null, replacement_apart, said_comes, stays}
 use Rattle.page_tree_laws.proofs.PlainStates.{usually}
-use Rattle.page_tree_laws.proofs.TextRows.{pending_row, told_by, usual_text}
+use Rattle.page_tree_laws.proofs.TextRows.{pending_row, emitted_by, usual_text}
 use Rattle.page_tree_laws.proofs.UsualModes.{IsMeek, IsUsual, is_usual, mild_meek}
 use Rattle.page_tree_laws.specs.KeptText.{how_often, in_texts}
 
@@ -54,8 +54,8 @@ start_gives modes.InTable g t s is plain named usual = table_start g t s plain n
 start_gives mode g t s is plain named usual =
     mild_gives (start_row mode g t s) (start_mild mode g t s is plain tt) s usual
 
-usual_row : (mark : Mark) (mode : InsertionMode) (s : State) → is_usual mode ≡ true → IsPlainMark mark → IsUsual s →
-    Gives (told_by mark) s (row mode mark s)
+usual_row : (mark : TreeToken) (mode : InsertionMode) (s : State) → is_usual mode ≡ true → IsPlainMark mark → IsUsual s →
+    Gives (emitted_by mark) s (row mode mark s)
 usual_row (character d) mode s is plain usual =
     of_character d s (text_row mode (is_white_space d) s) (usual_text mode (is_white_space d) s is usual) usual
 usual_row null mode s is plain usual = of_null s (text_row mode false s) (usual_text mode false s is usual) usual
@@ -69,15 +69,15 @@ usual_row (finish t) mode s is plain usual =
     mild_gives (end_row mode (tag_group t.name) t s) (end_mild mode (tag_group t.name) t s is) s usual
 usual_row end_of_file mode s is plain usual = mild_gives (end_of_file_row mode s) (file_mild mode s is) s usual
 
-plain_row : (mark : Mark) (s : State) → IsPlainMark mark → IsPlain s → Gives (told_by mark) s (row s.mode mark s)
+plain_row : (mark : TreeToken) (s : State) → IsPlainMark mark → IsPlain s → Gives (emitted_by mark) s (row s.mode mark s)
 plain_row mark s plain (usually usual) = usual_row mark s.mode s usual.modes.mode plain usual
 plain_row mark s plain (in_text waits) =
-    subst (λ m. Gives (told_by mark) s (row m mark s)) (sym waits.mode) (pending_row mark s waits)
+    subst (λ m. Gives (emitted_by mark) s (row m mark s)) (sym waits.mode) (pending_row mark s waits)
 plain_row mark s plain (in_group group) =
-    subst (λ m. Gives (told_by mark) s (row m mark s)) (sym group.mode) (group_row mark s plain group)
+    subst (λ m. Gives (emitted_by mark) s (row m mark s)) (sym group.mode) (group_row mark s plain group)
 
 -- where the current node is of HTML, the mode takes each mark
-html_takes : (mark : Mark) (local : List ℕ) (p : Bool) → takes mark (record { ns = Html; local = local }) p ≡ true
+html_takes : (mark : TreeToken) (local : List ℕ) (p : Bool) → takes mark (record { ns = Html; local = local }) p ≡ true
 html_takes (character c) local p = refl
 html_takes null local p = refl
 html_takes (comment cs) local p = refl
@@ -86,7 +86,7 @@ html_takes (start t) local p = refl
 html_takes (finish t) local p = refl
 html_takes end_of_file local p = refl
 
-taken_in : (mark : Mark) (set : List (List ℕ)) (ns : Namespace) (local : List ℕ) (p : Bool) →
+taken_in : (mark : TreeToken) (set : List (List ℕ)) (ns : Namespace) (local : List ℕ) (p : Bool) →
     is_element_of (html_elements set) (record { ns = ns; local = local }) ≡ true →
     takes mark (record { ns = ns; local = local }) p ≡ true
 taken_in mark set Html local p is = html_takes mark local p
@@ -94,14 +94,14 @@ taken_in mark set MathMl local p is = absurd (let k : false ≡ true = is in cc)
 taken_in mark set Svg local p is = absurd (let k : false ≡ true = is in cc)
 taken_in mark set (Other text) local p is = absurd (let k : false ≡ true = is in cc)
 
-taken_first : (mark : Mark) (set : List (List ℕ)) (b : Building) (ns : List ℕ) →
+taken_first : (mark : TreeToken) (set : List (List ℕ)) (b : Building) (ns : List ℕ) →
     is_current (html_elements set) b ns ≡ true → is_taken_at mark b.forest (first_of ns) ≡ true
 taken_first mark set b [] is = refl
 taken_first mark set b (n ∷ ns) is =
     let name = name_of n b.forest in
     taken_in mark set name.ns name.local (is_integration_point n b.forest) is
 
-taken_here : (mark : Mark) (set : List (List ℕ)) (b : Building) (context : Option ℕ) → context ≡ None →
+taken_here : (mark : TreeToken) (set : List (List ℕ)) (b : Building) (context : Option ℕ) → context ≡ None →
     is_current (html_elements set) b b.stack ≡ true →
     is_taken_at mark b.forest (adjusted_current context b.stack) ≡ true
 taken_here mark set b None e is = taken_first mark set b b.stack is
@@ -111,7 +111,7 @@ or_true : (x y : Bool) → y ≡ true → (x || y) ≡ true
 or_true true y e = refl
 or_true false y e = e
 
-by_mode_at : (mark : Mark) (set : List (List ℕ)) (s : State) → s.context ≡ None →
+by_mode_at : (mark : TreeToken) (set : List (List ℕ)) (s : State) → s.context ≡ None →
     is_current (html_elements set) s.tree s.tree.stack ≡ true → is_by_mode mark s ≡ true
 by_mode_at mark set s page is = or_true (is_text s.mode) (is_taken_at mark s.tree.forest (node_here s))
     (taken_here mark set s.tree s.context page is)
@@ -156,11 +156,11 @@ gives_after cs s (asks ask actions) usual meek gives =
 gives_after cs s (again actions) usual meek gives =
     comes_after [] s (act break_out s) (act_all actions (act break_out s)) usual meek gives
 
-broken_gives : (mark : Mark) (s : State) → IsPlainMark mark → IsUsual s →
-    Gives (told_by mark) s (broken_out_row mark s)
+broken_gives : (mark : TreeToken) (s : State) → IsPlainMark mark → IsUsual s →
+    Gives (emitted_by mark) s (broken_out_row mark s)
 broken_gives mark s plain usual =
     let meek = mild_meek break_out tt s usual in
-    gives_after (told_by mark) s (row s.mode mark (act break_out s)) usual meek
+    gives_after (emitted_by mark) s (row s.mode mark (act break_out s)) usual meek
     (usual_row mark s.mode (act break_out s) usual.modes.mode plain meek.usual)
 
 foreign_text_gives : (is_space : Bool) (s : State) → GivesText s is_space (foreign_text is_space)
@@ -179,8 +179,8 @@ null_gives s usual =
           (replacement_apart c is) (comes.grows c is);
     }
 
-foreign_gives : (mark : Mark) (s : State) → is_by_mode mark s ≡ false → IsPlainMark mark → IsUsual s →
-    Gives (told_by mark) s (foreign_row mark s)
+foreign_gives : (mark : TreeToken) (s : State) → is_by_mode mark s ≡ false → IsPlainMark mark → IsUsual s →
+    Gives (emitted_by mark) s (foreign_row mark s)
 foreign_gives (character d) s off plain usual =
     of_character d s (foreign_text (is_white_space d)) (foreign_text_gives (is_white_space d) s) usual
 foreign_gives null s off plain usual = null_gives s usual
@@ -206,17 +206,17 @@ taken_by_mode : (b : Bool) (cs : List ℕ) (s : State) (x y : Row) → b ≡ tru
 taken_by_mode true cs s x y e gives = gives
 taken_by_mode false cs s x y e gives = absurd (let k : false ≡ true = e in cc)
 
-pub rule_gives : (mark : Mark) (s : State) → IsPlainMark mark → IsPlain s → Gives (told_by mark) s (rule mark s)
+pub rule_gives : (mark : TreeToken) (s : State) → IsPlainMark mark → IsPlain s → Gives (emitted_by mark) s (rule mark s)
 rule_gives mark s plain (usually usual) =
-    gives_if (is_by_mode mark s) (told_by mark) s (row s.mode mark s) (foreign_row mark s)
+    gives_if (is_by_mode mark s) (emitted_by mark) s (row s.mode mark s) (foreign_row mark s)
     (λ e. usual_row mark s.mode s usual.modes.mode plain usual)
     (λ e. foreign_gives mark s e plain usual)
 rule_gives mark s plain (in_text waits) =
-    taken_by_mode (is_by_mode mark s) (told_by mark) s (row s.mode mark s) (foreign_row mark s)
+    taken_by_mode (is_by_mode mark s) (emitted_by mark) s (row s.mode mark s) (foreign_row mark s)
     (by_mode_at mark (codes "table" ∷ codes "tbody" ∷ codes "template" ∷ codes "tfoot" ∷ codes "thead"
     ∷ codes "tr" ∷ []) s waits.page waits.current)
     (plain_row mark s plain (in_text waits))
 rule_gives mark s plain (in_group group) =
-    taken_by_mode (is_by_mode mark s) (told_by mark) s (row s.mode mark s) (foreign_row mark s)
+    taken_by_mode (is_by_mode mark s) (emitted_by mark) s (row s.mode mark s) (foreign_row mark s)
     (by_mode_at mark (codes "colgroup" ∷ []) s group.page group.tree.current)
     (plain_row mark s plain (in_group group))

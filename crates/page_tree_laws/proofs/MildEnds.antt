@@ -18,7 +18,8 @@ use Rattle.rules_table.specs.Table.{comment_row, doctype_row, end_of_file_row, e
 use Rattle.tree_predicates.specs.declared.modes.InsertionMode.{InsertionMode}
 use Rattle.tree_predicates.specs.declared.modes.InsertionMode.TheVariants as modes
 use Rattle.page_tree_laws.proofs.MildRows.{body_end_mild, file_end_mild, mild_fostered, mild_if, template_mild}
-use Rattle.page_tree_laws.proofs.MildStarts.{initial_mild, past_body_mild, past_caption_mild, past_cell_mild, past_row_mild}
+use Rattle.page_tree_laws.proofs.MildStarts.{initial_mild, past_body_mild, past_caption_mild, past_cell_mild}
+use Rattle.page_tree_laws.proofs.MildStarts.{past_row_mild}
 use Rattle.page_tree_laws.proofs.PlainStates.{IsMildRow}
 use Rattle.page_tree_laws.proofs.UsualModes.{is_usual}
 

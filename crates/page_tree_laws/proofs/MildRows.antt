@@ -1,7 +1,7 @@
 -- Rows of the head and of the body do mild actions alone, where no start tag of a template or a frameset is emitted
 -- (WHATWG HTML, 13.2.6.4.4 and 13.2.6.4.7). A clause on any other group is checked group by group.
-use Rattle.std.proofs.Common.{◌≡◌, ℕ, Bool, true, false, if◌then◌else◌, List, [], ◌∷◌, ◌++◌, Option, None, Some, codes}
-use Rattle.std.proofs.Common.{refl}
+use Rattle.std.proofs.Common.{◌≡◌, if◌then◌else◌, [], ◌∷◌, ◌++◌, Bool, List, None, Option, Some, codes, false, refl}
+use Rattle.std.proofs.Common.{true, ℕ}
 use Rattle.tree_formatting.specs.Entries.{last_named}
 use Rattle.html_lexemes.specs.declared.token.Tag.{Tag}
 use Rattle.rules_table.specs.Encodings.{named_encoding}
@@ -10,13 +10,13 @@ use Rattle.tree_names.specs.Wanted.{one}
 use Rattle.tree_names.specs.declared.group.TagGroup.{TagGroup}
 use Rattle.tree_names.specs.declared.group.TagGroup.TheVariants as groups
 use Rattle.rules_table.specs.Actions.{Action, at_place, foster, insert_void, in_html, refuse_frameset}
-use Rattle.rules_table.specs.Asking.{body_of, first_opened, has_form, has_template, in_button_scope}
-use Rattle.rules_table.specs.Asking.{in_list_item_scope, in_scope, is_itself_in_scope, is_quirky}
+use Rattle.rules_table.specs.Asking.{body_of, first_opened, has_form, has_template, in_button_scope, in_list_item_scope}
+use Rattle.rules_table.specs.Asking.{in_scope, is_itself_in_scope, is_quirky}
 use Rattle.rules_table.specs.HtmlTag.{given_to, html_start}
 use Rattle.rules_table.specs.InBody.{in_body_start, in_template_end_of_file}
 use Rattle.rules_table.specs.InBodyBlocks.{body_start, form_start, given_to_body}
 use Rattle.rules_table.specs.InBodyEnds.{form_end, form_pointer_end, in_body_end}
-use Rattle.rules_table.specs.InBodyPhrases.{anchor_behind, input_start, select_closed}
+use Rattle.rules_table.specs.InBodyPhrases.{anchor_after, input_start, select_closed}
 use Rattle.rules_table.specs.InHead.{asks_encoding, in_head_start, noscript_start, template_end}
 use Rattle.rules_table.specs.Rows.{Row, again, asks, between_fosters, done, fostered, ignored}
 use Rattle.rules_table.specs.State.{State}
@@ -91,7 +91,7 @@ form_mild : (t : Tag) (s : State) → is_barred (in_html t.name) ≡ false → I
 form_mild t s is = mild_if (has_form s) _ _ tt
     (mild_if (has_template s) _ _ (tt, (is, tt)) (tt, (is, (tt, tt))))
 
-anchor_mild : (listed : Option ℕ) (t : Tag) → is_barred (in_html t.name) ≡ false → IsMildRow (anchor_behind listed t)
+anchor_mild : (listed : Option ℕ) (t : Tag) → is_barred (in_html t.name) ≡ false → IsMildRow (anchor_after listed t)
 anchor_mild None t is = (tt, (is, tt))
 anchor_mild (Some n) t is = (tt, (tt, (tt, (tt, (is, tt)))))
 

@@ -16,7 +16,7 @@ use Rattle.rules_table.specs.Actions.{act, act_all, at_place, go_back, in_html, 
 use Rattle.rules_table.specs.InHead.{in_head_start}
 use Rattle.rules_table.specs.InHeadNoscript.{in_head_noscript_end, in_head_noscript_start, in_head_noscript_text}
 use Rattle.rules_table.specs.Rows.{for_character, is_white_space}
-use Rattle.rules_table.specs.State.{Mark, State, character, comment, doctype, end_of_file, finish, null, start}
+use Rattle.rules_table.specs.State.{TreeToken, State, character, comment, doctype, end_of_file, finish, null, start}
 use Rattle.rules_table.specs.Table.{row}
 use Rattle.rules_table.specs.TextMode.{text_mode_end}
 use Rattle.rules_table.specs.declared.target.Target.TheVariants as targets
@@ -71,14 +71,14 @@ module _ (is_framed : Bool) (root head : ℕ) where
   noscript_end groups.LineBreak n s early is = noscript_closes is_framed root head s n early is.stack
   noscript_end group n s early is = stays_comes is_framed root head s early (stands n s is)
 
-  pub noscript_row : (mark : Mark) (n : ℕ) (s : State) → IsEarly root head s → s.mode ≡ modes.InHeadNoscript →
+  pub noscript_row : (mark : TreeToken) (n : ℕ) (s : State) → IsEarly root head s → s.mode ≡ modes.InHeadNoscript →
       s.tree.stack ≡ n ∷ head ∷ root ∷ [] → IsOther root head n → Holds n s.tree.forest →
       name_of n s.tree.forest ≡ in_html (codes "noscript") → Comes is_framed s (row modes.InHeadNoscript mark s)
   noscript_row mark n s early m e other held named = by mark where
     is : IsNoscript root head n s
     is = record { mode = m; stack = e; other = other; held = held; named = named }
 
-    by : (k : Mark) → Comes is_framed s (row modes.InHeadNoscript k s)
+    by : (k : TreeToken) → Comes is_framed s (row modes.InHeadNoscript k s)
     by (character c) = noscript_text (is_white_space c) c n s early is
     by null = noscript_closes is_framed root head s n early e
     by (comment cs) = comment_comes is_framed root head cs s early (stands n s is)
@@ -99,30 +99,30 @@ module _ (is_framed : Bool) (root head : ℕ) where
   text_end groups.Script s early stack = text_left s early stack
   text_end group s early stack = text_left s early stack
 
-  pub text_row : (mark : Mark) (s : State) → IsEarly root head s → IsEarlyStack root head s →
+  pub text_row : (mark : TreeToken) (s : State) → IsEarly root head s → IsEarlyStack root head s →
       IsEarlyStack root head (act_all (pop ∷ go_back ∷ []) s) → Comes is_framed s (row modes.Text mark s)
-  text_row (character c) s early stack behind = said_comes is_framed root head c s early stack
-  text_row null s early stack behind = stays_comes is_framed root head s early stack
-  text_row (comment cs) s early stack behind = comment_comes is_framed root head cs s early stack
-  text_row (doctype d) s early stack behind = stays_comes is_framed root head s early stack
-  text_row (start t) s early stack behind = stays_comes is_framed root head s early stack
-  text_row (finish t) s early stack behind = text_end (tag_group t.name) s early behind
-  text_row end_of_file s early stack behind = text_left s early behind
+  text_row (character c) s early stack trailing = said_comes is_framed root head c s early stack
+  text_row null s early stack trailing = stays_comes is_framed root head s early stack
+  text_row (comment cs) s early stack trailing = comment_comes is_framed root head cs s early stack
+  text_row (doctype d) s early stack trailing = stays_comes is_framed root head s early stack
+  text_row (start t) s early stack trailing = stays_comes is_framed root head s early stack
+  text_row (finish t) s early stack trailing = text_end (tag_group t.name) s early trailing
+  text_row end_of_file s early stack trailing = text_left s early trailing
 
   -- the three stacks after it
-  pub behind_head_text : (n : ℕ) (s : State) → s.original ≡ modes.InHead → s.tree.stack ≡ n ∷ head ∷ root ∷ [] →
+  pub after_head_text : (n : ℕ) (s : State) → s.original ≡ modes.InHead → s.tree.stack ≡ n ∷ head ∷ root ∷ [] →
       IsEarlyStack root head (act_all (pop ∷ go_back ∷ []) s)
   unfolding act
-  behind_head_text n s o e = in_head (ap out_of_text o) (ap below_current e)
+  after_head_text n s o e = in_head (ap out_of_text o) (ap below_current e)
 
-  pub behind_noscript_text : (m n : ℕ) (s : State) → s.original ≡ modes.InHeadNoscript →
+  pub after_noscript_text : (m n : ℕ) (s : State) → s.original ≡ modes.InHeadNoscript →
       s.tree.stack ≡ m ∷ n ∷ head ∷ root ∷ [] → IsOther root head n → Holds n s.tree.forest →
       name_of n s.tree.forest ≡ in_html (codes "noscript") → IsEarlyStack root head (act_all (pop ∷ go_back ∷ []) s)
   unfolding act
-  behind_noscript_text m n s o e other held named =
+  after_noscript_text m n s o e other held named =
       in_noscript n (ap out_of_text o) (ap below_current e) other held named
 
-  pub behind_text : (n : ℕ) (s : State) → s.original ≡ modes.AfterHead → s.tree.stack ≡ n ∷ root ∷ [] →
+  pub after_text : (n : ℕ) (s : State) → s.original ≡ modes.AfterHead → s.tree.stack ≡ n ∷ root ∷ [] →
       IsEarlyStack root head (act_all (pop ∷ go_back ∷ []) s)
   unfolding act
-  behind_text n s o e = past_head (ap out_of_text o) (ap below_current e)
+  after_text n s o e = past_head (ap out_of_text o) (ap below_current e)

@@ -1,15 +1,13 @@
 -- What a mark comes to after the head: the body is made, or a frameset in its place.
-use Rattle.std.proofs.Common.{◌≡◌, ℕ, Bool, true, false, List, [], ◌∷◌, None, codes, refl, sym, ap}
-use Rattle.std.proofs.Common.{subst, ◌∙◌}
+use Rattle.std.proofs.Common.{◌≡◌, [], ◌∷◌, ◌∙◌, Bool, List, None, ap, codes, false, refl, subst, sym, true, ℕ}
 use Rattle.tree_forest.specs.Forest.{nodes}
 use Rattle.html_lexemes.specs.declared.names.Attribute.{Attribute}
 use Rattle.html_lexemes.specs.declared.token.Tag.{Tag}
 use Rattle.html_tree_state.specs.Insertions.{inserted}
 use Rattle.tree_names.specs.Sets.{is_html}
 use Rattle.page_tree_laws.proofs.BodyPlanting.{form_freed, new_apart, third_guard, third_inserted}
-use Rattle.page_tree_laws.proofs.EarlyModes.{IsToldGroup, IsToldMark, StartsTemplate, in_the_head, none_open}
-use Rattle.page_tree_laws.proofs.EarlyModes.{root_alone}
-use Rattle.page_tree_laws.proofs.EarlyModes.{template_end_comes}
+use Rattle.page_tree_laws.proofs.EarlyModes.{IsEmittedGroup, IsEmittedMark, StartsTemplate, in_the_head, none_open}
+use Rattle.page_tree_laws.proofs.EarlyModes.{root_alone, template_end_comes}
 use Rattle.page_tree_laws.proofs.EarlyPhases.{Comes}
 use Rattle.page_tree_laws.proofs.EarlyRows.{comment_comes, head_start_comes, html_comes, is_metadata, said_comes}
 use Rattle.page_tree_laws.proofs.EarlyRows.{stays_comes}
@@ -18,18 +16,17 @@ use Rattle.page_tree_laws.proofs.Forms.{IsFormed}
 use Rattle.page_tree_laws.proofs.GroupNames.{body_named, frameset_named}
 use Rattle.page_tree_laws.proofs.GuardKinds.{early_names, is_of_body, is_of_frames}
 use Rattle.page_tree_laws.proofs.Guards.{IsGuarded, base_names, may_stand}
-use Rattle.page_tree_laws.proofs.Phases.{IsBuilt, IsEarly, IsPhase, body_open, built, going_on, of_frames}
-use Rattle.page_tree_laws.proofs.Phases.{past_head}
+use Rattle.page_tree_laws.proofs.Phases.{IsBuilt, IsEarly, IsPhase, body_open, built, going_on, of_frames, past_head}
 use Rattle.page_tree_laws.proofs.Steady.{IsSteady}
 use Rattle.tree_names.specs.Groups.{tag_group}
 use Rattle.tree_names.specs.declared.group.TagGroup.{TagGroup}
 use Rattle.tree_names.specs.declared.group.TagGroup.TheVariants as groups
-use Rattle.rules_table.specs.Actions.{act, act_all, at_place, go_to, in_html, insert, into_head, is_of_text}
-use Rattle.rules_table.specs.Actions.{is_text, refuse_frameset}
+use Rattle.rules_table.specs.Actions.{act, act_all, at_place, go_to, in_html, insert, into_head, is_of_text, is_text}
+use Rattle.rules_table.specs.Actions.{refuse_frameset}
 use Rattle.rules_table.specs.AfterHead.{after_head_end, after_head_start, after_head_text, body_made}
 use Rattle.rules_table.specs.InHead.{in_head_start}
 use Rattle.rules_table.specs.Rows.{for_character, is_white_space}
-use Rattle.rules_table.specs.State.{Mark, State, character, comment, doctype, end_of_file, finish, null, start}
+use Rattle.rules_table.specs.State.{TreeToken, State, character, comment, doctype, end_of_file, finish, null, start}
 use Rattle.rules_table.specs.Table.{row}
 use Rattle.rules_table.specs.declared.target.Target.TheVariants as targets
 use Rattle.tree_predicates.specs.declared.modes.InsertionMode.{InsertionMode}
@@ -110,9 +107,9 @@ module _ (is_framed : Bool) (root head : ℕ) where
       IsEarly root head s → s.context ≡ None → IsFormed s → s.tree.stack ≡ root ∷ [] →
       IsBuilt is_framed (act_all (insert at_place t ∷ go_to modes.InFrameset ∷ []) s)
   unfolding act
-  frameset_built t s named told early page formed e =
+  frameset_built t s named emitted early page formed e =
       let word : t.name ≡ codes "frameset" = frameset_named t.name named in
-      (of_frames root head (nodes s.tree.forest) (new_apart root head s early) told
+      (of_frames root head (nodes s.tree.forest) (new_apart root head s early) emitted
       (named_steady t.name (codes "frameset") early_names true true false is_of_frames (nodes s.tree.forest) _ word
       (third_steady t.name early_names true true false is_of_frames s _ t.attrs early page formed e on
       (ap (λ w. is_html (codes "template") (in_html w)) word) refl refl refl refl refl refl refl refl)))
@@ -120,7 +117,7 @@ module _ (is_framed : Bool) (root head : ℕ) where
   frameset_comes : (t : Tag) (s : State) → tag_group t.name ≡ groups.Frameset → is_framed ≡ true →
       IsEarly root head s → s.context ≡ None → IsFormed s → s.tree.stack ≡ root ∷ [] →
       IsPhase is_framed (act_all (insert at_place t ∷ go_to modes.InFrameset ∷ []) s)
-  frameset_comes t s named told early page formed e = built (frameset_built t s named told early page formed e)
+  frameset_comes t s named emitted early page formed e = built (frameset_built t s named emitted early page formed e)
 
   metadata : (group : TagGroup) (t : Tag) (s : State) → is_metadata group ≡ true → IsEarly root head s →
       s.mode ≡ modes.AfterHead → s.tree.stack ≡ root ∷ [] → Comes is_framed s (in_head_start into_head group t s)
@@ -134,27 +131,27 @@ module _ (is_framed : Bool) (root head : ℕ) where
   past_head_text false c s early page formed m e = body_comes s early page formed e
 
   past_head_start : (group : TagGroup) (t : Tag) (s : State) → tag_group t.name ≡ group →
-      IsToldGroup is_framed group → StartsTemplate is_framed root head targets.IntoHead s → IsEarly root head s →
+      IsEmittedGroup is_framed group → StartsTemplate is_framed root head targets.IntoHead s → IsEarly root head s →
       s.context ≡ None → IsFormed s → s.mode ≡ modes.AfterHead →
       s.tree.stack ≡ root ∷ [] → Comes is_framed s (after_head_start group t s)
-  past_head_start groups.Html t s named told starts early page formed m e =
+  past_head_start groups.Html t s named emitted starts early page formed m e =
       html_comes is_framed root head t s early (past_head m e)
-  past_head_start groups.Body t s named told starts early page formed m e =
+  past_head_start groups.Body t s named emitted starts early page formed m e =
       body_start_comes t s named early page formed e
-  past_head_start groups.Frameset t s named told starts early page formed m e =
-      frameset_comes t s named told early page formed e
-  past_head_start groups.Base t s named told starts early page formed m e = metadata groups.Base t s refl early m e
-  past_head_start groups.Link t s named told starts early page formed m e = metadata groups.Link t s refl early m e
-  past_head_start groups.Meta t s named told starts early page formed m e = metadata groups.Meta t s refl early m e
-  past_head_start groups.Noframes t s named told starts early page formed m e =
+  past_head_start groups.Frameset t s named emitted starts early page formed m e =
+      frameset_comes t s named emitted early page formed e
+  past_head_start groups.Base t s named emitted starts early page formed m e = metadata groups.Base t s refl early m e
+  past_head_start groups.Link t s named emitted starts early page formed m e = metadata groups.Link t s refl early m e
+  past_head_start groups.Meta t s named emitted starts early page formed m e = metadata groups.Meta t s refl early m e
+  past_head_start groups.Noframes t s named emitted starts early page formed m e =
       metadata groups.Noframes t s refl early m e
-  past_head_start groups.Script t s named told starts early page formed m e = metadata groups.Script t s refl early m e
-  past_head_start groups.Style t s named told starts early page formed m e = metadata groups.Style t s refl early m e
-  past_head_start groups.Template t s named told starts early page formed m e = starts t named
-  past_head_start groups.Title t s named told starts early page formed m e = metadata groups.Title t s refl early m e
-  past_head_start groups.Head t s named told starts early page formed m e =
+  past_head_start groups.Script t s named emitted starts early page formed m e = metadata groups.Script t s refl early m e
+  past_head_start groups.Style t s named emitted starts early page formed m e = metadata groups.Style t s refl early m e
+  past_head_start groups.Template t s named emitted starts early page formed m e = starts t named
+  past_head_start groups.Title t s named emitted starts early page formed m e = metadata groups.Title t s refl early m e
+  past_head_start groups.Head t s named emitted starts early page formed m e =
       stays_comes is_framed root head s early (past_head m e)
-  past_head_start group t s named told starts early page formed m e = body_comes s early page formed e
+  past_head_start group t s named emitted starts early page formed m e = body_comes s early page formed e
 
   past_head_end : (group : TagGroup) (s : State) → IsEarly root head s → s.context ≡ None → IsFormed s →
       s.mode ≡ modes.AfterHead → s.tree.stack ≡ root ∷ [] → Comes is_framed s (after_head_end group s)
@@ -165,19 +162,19 @@ module _ (is_framed : Bool) (root head : ℕ) where
   past_head_end groups.LineBreak s early page formed m e = body_comes s early page formed e
   past_head_end group s early page formed m e = stays_comes is_framed root head s early (past_head m e)
 
-  pub past_head_row : (mark : Mark) (s : State) → IsToldMark is_framed mark →
+  pub past_head_row : (mark : TreeToken) (s : State) → IsEmittedMark is_framed mark →
       StartsTemplate is_framed root head targets.IntoHead s → IsEarly root head s →
       s.context ≡ None → IsFormed s → s.mode ≡ modes.AfterHead → s.tree.stack ≡ root ∷ [] →
       Comes is_framed s (row modes.AfterHead mark s)
-  past_head_row (character c) s told starts early page formed m e =
+  past_head_row (character c) s emitted starts early page formed m e =
       past_head_text (is_white_space c) c s early page formed m e
-  past_head_row null s told starts early page formed m e = body_comes s early page formed e
-  past_head_row (comment cs) s told starts early page formed m e =
+  past_head_row null s emitted starts early page formed m e = body_comes s early page formed e
+  past_head_row (comment cs) s emitted starts early page formed m e =
       comment_comes is_framed root head cs s early (past_head m e)
-  past_head_row (doctype d) s told starts early page formed m e =
+  past_head_row (doctype d) s emitted starts early page formed m e =
       stays_comes is_framed root head s early (past_head m e)
-  past_head_row (start t) s told starts early page formed m e =
-      past_head_start (tag_group t.name) t s refl told starts early page formed m e
-  past_head_row (finish t) s told starts early page formed m e =
+  past_head_row (start t) s emitted starts early page formed m e =
+      past_head_start (tag_group t.name) t s refl emitted starts early page formed m e
+  past_head_row (finish t) s emitted starts early page formed m e =
       past_head_end (tag_group t.name) s early page formed m e
-  past_head_row end_of_file s told starts early page formed m e = body_comes s early page formed e
+  past_head_row end_of_file s emitted starts early page formed m e = body_comes s early page formed e

@@ -1,24 +1,22 @@
 -- What a mark comes to, by how far the page is built.
-use Rattle.std.proofs.Common.{◌≡◌, ℕ, zero, suc, ◌||◌, Bool, true, false}
-use Rattle.std.proofs.Common.{if◌then◌else◌, List, [], ◌∷◌, Option, None, Some}
-use Rattle.std.proofs.Common.{◌⊎◌, codes, inl, inr, refl, sym, ap, subst, ◌∙◌}
+use Rattle.std.proofs.Common.{◌≡◌, ◌||◌, if◌then◌else◌, [], ◌∷◌, ◌⊎◌, ◌∙◌, Bool, List, None, Option, Some, ap, codes}
+use Rattle.std.proofs.Common.{false, inl, inr, refl, subst, suc, sym, true, zero, ℕ}
 use Rattle.tree_forest.specs.Forest.{is_integration_point, name_of}
 use Rattle.html_tree_state.specs.Foreign.{adjusted_current}
 use Rattle.html_tree_state.specs.OpenElements.{first_of}
 use Rattle.page_tree_laws.proofs.BareRows.{before_html_row, initial_row}
 use Rattle.page_tree_laws.proofs.BodyRows.{body_rule}
-use Rattle.page_tree_laws.proofs.EarlyModes.{IsToldMark, head_row, in_place_of_head, in_the_head, root_named}
+use Rattle.page_tree_laws.proofs.EarlyModes.{IsEmittedMark, head_row, in_place_of_head, in_the_head, root_named}
 use Rattle.page_tree_laws.proofs.EarlyPhases.{Comes, ComesTo, head_named}
 use Rattle.page_tree_laws.proofs.Forms.{IsFormed, all_formed}
 use Rattle.page_tree_laws.proofs.GoingRows.{frames_rule, going_rule, only_text}
 use Rattle.page_tree_laws.proofs.GuardKinds.{AreApart, root_title, stands_in_template, template_guard}
-use Rattle.page_tree_laws.proofs.NoscriptRows.{behind_head_text, behind_noscript_text, behind_text}
-use Rattle.page_tree_laws.proofs.NoscriptRows.{noscript_row, text_row}
+use Rattle.page_tree_laws.proofs.NoscriptRows.{after_head_text, after_noscript_text, after_text, noscript_row, text_row}
 use Rattle.page_tree_laws.proofs.PastHeadRows.{past_head_row}
 use Rattle.page_tree_laws.proofs.Phases.{IsBuilt, IsEarly, IsEarlyStack, IsPhase, body_open, body_to_come, built}
 use Rattle.page_tree_laws.proofs.Phases.{doctype_to_come, going_on, head_to_come, in_head, in_noscript, of_frames}
-use Rattle.page_tree_laws.proofs.Phases.{past_head, root_to_come, template_open, text_of_head}
-use Rattle.page_tree_laws.proofs.Phases.{text_of_noscript, text_past_head}
+use Rattle.page_tree_laws.proofs.Phases.{past_head, root_to_come, template_open, text_of_head, text_of_noscript}
+use Rattle.page_tree_laws.proofs.Phases.{text_past_head}
 use Rattle.page_tree_laws.proofs.RootRows.{before_head_row}
 use Rattle.page_tree_laws.proofs.PageReady.{ActionsKeep, Ready}
 use Rattle.rules_table.specs.Actions.{act_all, in_html, is_text}
@@ -26,9 +24,8 @@ use Rattle.rules_table.specs.ForeignContent.{is_by_mode, is_taken_at, node_here,
 use Rattle.rules_table.specs.Rows.{Row, again, asks, done}
 use Rattle.rules_table.specs.Rule.{foreign_row, rule}
 use Rattle.rules_table.specs.Settling.{Settled, entered, given_by, settle}
-use Rattle.rules_table.specs.State.{Ask, Mark, State, character, comment}
-use Rattle.rules_table.specs.State.{doctype, encoding, end_of_file, finish, nothing}
-use Rattle.rules_table.specs.State.{null, plaintext, raw, script, start}
+use Rattle.rules_table.specs.State.{Ask, State, TreeToken, character, comment, doctype, encoding, end_of_file, finish}
+use Rattle.rules_table.specs.State.{nothing, null, plaintext, raw, script, start}
 use Rattle.rules_table.specs.Table.{row}
 use Rattle.tree_predicates.specs.declared.modes.InsertionMode.{InsertionMode}
 use Rattle.tree_predicates.specs.declared.modes.InsertionMode.TheVariants as modes
@@ -46,7 +43,7 @@ or_right : (x y : Bool) → y ≡ true → (x || y) ≡ true
 or_right true y e = refl
 or_right false y e = e
 
-html_takes : (mark : Mark) (word : List ℕ) (p : Bool) → takes mark (in_html word) p ≡ true
+html_takes : (mark : TreeToken) (word : List ℕ) (p : Bool) → takes mark (in_html word) p ≡ true
 html_takes (character c) word p = refl
 html_takes null word p = refl
 html_takes (comment cs) word p = refl
@@ -59,11 +56,11 @@ here_first : (context : Option ℕ) (ns : List ℕ) → context ≡ None → adj
 here_first None ns e = refl
 here_first (Some n) ns e = absurd (let k : Some n ≡ None = e in cc)
 
-none_here : (mark : Mark) (s : State) → s.context ≡ None → s.tree.stack ≡ [] → is_by_mode mark s ≡ true
+none_here : (mark : TreeToken) (s : State) → s.context ≡ None → s.tree.stack ≡ [] → is_by_mode mark s ≡ true
 none_here mark s page e = or_right (is_text s.mode) (is_taken_at mark s.tree.forest (node_here s))
     (ap (is_taken_at mark s.tree.forest) (here_first s.context s.tree.stack page ∙ ap first_of e))
 
-html_here : (mark : Mark) (n : ℕ) (ns word : List ℕ) (s : State) → s.context ≡ None → s.tree.stack ≡ n ∷ ns →
+html_here : (mark : TreeToken) (n : ℕ) (ns word : List ℕ) (s : State) → s.context ≡ None → s.tree.stack ≡ n ∷ ns →
     name_of n s.tree.forest ≡ in_html word → is_by_mode mark s ≡ true
 html_here mark n ns word s page e named = or_right (is_text s.mode) (is_taken_at mark s.tree.forest (node_here s))
     (ap (is_taken_at mark s.tree.forest) (here_first s.context s.tree.stack page ∙ ap first_of e)
@@ -76,7 +73,7 @@ by_true P true s x y e comes = comes
 by_true P false s x y e comes = absurd (let k : false ≡ true = e in cc)
 
 -- the rule of a mode
-by_mode : (P : State → Type 0) (mark : Mark) (m : InsertionMode) (s : State) → is_by_mode mark s ≡ true → s.mode ≡ m →
+by_mode : (P : State → Type 0) (mark : TreeToken) (m : InsertionMode) (s : State) → is_by_mode mark s ≡ true → s.mode ≡ m →
     ComesTo P s (row m mark s) → ComesTo P s (rule mark s)
 by_mode P mark m s by at comes = by_true P (is_by_mode mark s) s (row s.mode mark s) (foreign_row mark s) by
     (subst (λ k. ComesTo P s (row k mark s)) (sym at) comes)
@@ -85,48 +82,48 @@ or_left : (x y : Bool) → x ≡ true → (x || y) ≡ true
 or_left true y e = refl
 or_left false y e = absurd (let k : false ≡ true = e in cc)
 
-text_by_mode : (mark : Mark) (s : State) → s.mode ≡ modes.Text → is_by_mode mark s ≡ true
+text_by_mode : (mark : TreeToken) (s : State) → s.mode ≡ modes.Text → is_by_mode mark s ≡ true
 text_by_mode mark s at =
     or_left (is_text s.mode) (is_taken_at mark s.tree.forest (node_here s)) (ap is_text at)
 
 module _ (is_framed : Bool) (keep : ActionsKeep) where
-  early_rule : (root head : ℕ) (mark : Mark) (s : State) → IsToldMark is_framed mark → Ready s → IsFormed s →
+  early_rule : (root head : ℕ) (mark : TreeToken) (s : State) → IsEmittedMark is_framed mark → Ready s → IsFormed s →
       IsEarly root head s → IsEarlyStack root head s → Comes is_framed s (rule mark s)
-  early_rule root head mark s told ready formed early (in_head m e) =
+  early_rule root head mark s emitted ready formed early (in_head m e) =
       by_mode (IsPhase is_framed) mark modes.InHead s
       (html_here mark head (root ∷ []) (codes "head") s ready.page e (head_named is_framed root head s early)) m
       (head_row is_framed root head mark s (λ t named. template_started is_framed true root head keep targets.AtPlace
       t s
       named early ready formed (in_place_of_head is_framed root head s (root ∷ []) early e) e) early m e)
-  early_rule root head mark s told ready formed early (in_noscript n m e other held named) =
+  early_rule root head mark s emitted ready formed early (in_noscript n m e other held named) =
       by_mode (IsPhase is_framed) mark modes.InHeadNoscript s
       (html_here mark n (head ∷ root ∷ []) (codes "noscript") s ready.page e named) m
       (noscript_row is_framed root head mark n s early m e other held named)
-  early_rule root head mark s told ready formed early (past_head m e) =
+  early_rule root head mark s emitted ready formed early (past_head m e) =
       by_mode (IsPhase is_framed) mark modes.AfterHead s
       (html_here mark root [] (codes "html") s ready.page e (root_named is_framed root head s early)) m
-      (past_head_row is_framed root head mark s told (λ t named. template_started is_framed false root head keep
+      (past_head_row is_framed root head mark s emitted (λ t named. template_started is_framed false root head keep
       targets.IntoHead t s named early ready formed (in_the_head is_framed root head s early) e) early ready.page
       formed m
       e)
-  early_rule root head mark s told ready formed early (text_of_head n m o e) =
+  early_rule root head mark s emitted ready formed early (text_of_head n m o e) =
       by_mode (IsPhase is_framed) mark modes.Text s (text_by_mode mark s m) m
-      (text_row is_framed root head mark s early (text_of_head n m o e) (behind_head_text is_framed root head n s o e))
-  early_rule root head mark s told ready formed early (text_of_noscript k n m o e other held named) =
+      (text_row is_framed root head mark s early (text_of_head n m o e) (after_head_text is_framed root head n s o e))
+  early_rule root head mark s emitted ready formed early (text_of_noscript k n m o e other held named) =
       by_mode (IsPhase is_framed) mark modes.Text s (text_by_mode mark s m) m
       (text_row is_framed root head mark s early (text_of_noscript k n m o e other held named)
-      (behind_noscript_text is_framed root head k n s o e other held named))
-  early_rule root head mark s told ready formed early (text_past_head n m o e) =
+      (after_noscript_text is_framed root head k n s o e other held named))
+  early_rule root head mark s emitted ready formed early (text_past_head n m o e) =
       by_mode (IsPhase is_framed) mark modes.Text s (text_by_mode mark s m) m
-      (text_row is_framed root head mark s early (text_past_head n m o e) (behind_text is_framed root head n s o e))
+      (text_row is_framed root head mark s early (text_past_head n m o e) (after_text is_framed root head n s o e))
 
-  pub built_rule : (mark : Mark) (s : State) → IsToldMark is_framed mark → Ready s → IsFormed s → IsBuilt is_framed s →
+  pub built_rule : (mark : TreeToken) (s : State) → IsEmittedMark is_framed mark → Ready s → IsFormed s → IsBuilt is_framed s →
       ComesTo (IsBuilt is_framed) s (rule mark s)
-  built_rule mark s told ready formed (body_open root head body apart steady) =
-      body_rule is_framed root head body apart keep mark s told steady ready formed
-  built_rule mark s told ready formed (going_on root head body apart steady refused) =
+  built_rule mark s emitted ready formed (body_open root head body apart steady) =
+      body_rule is_framed root head body apart keep mark s emitted steady ready formed
+  built_rule mark s emitted ready formed (going_on root head body apart steady refused) =
       going_rule root head body apart is_framed mark s steady refused
-  built_rule mark s told ready formed (of_frames root head frameset apart framed steady) =
+  built_rule mark s emitted ready formed (of_frames root head frameset apart framed steady) =
       frames_rule root head frameset apart is_framed mark s framed steady
 
   as_phase : (r : Row) (s : State) → ComesTo (IsBuilt is_framed) s r → Comes is_framed s r
@@ -134,22 +131,22 @@ module _ (is_framed : Bool) (keep : ActionsKeep) where
   as_phase (asks ask actions) s comes = built comes
   as_phase (again actions) s comes = built comes
 
-  pub phase_rule : (mark : Mark) (s : State) → IsToldMark is_framed mark → Ready s → IsFormed s → IsPhase is_framed s →
+  pub phase_rule : (mark : TreeToken) (s : State) → IsEmittedMark is_framed mark → Ready s → IsFormed s → IsPhase is_framed s →
       Comes is_framed s (rule mark s)
-  phase_rule mark s told ready formed (doctype_to_come m bare) = by_mode (IsPhase is_framed) mark modes.Initial s
+  phase_rule mark s emitted ready formed (doctype_to_come m bare) = by_mode (IsPhase is_framed) mark modes.Initial s
       (none_here mark s ready.page bare.stack) m (initial_row is_framed mark s ready.sound.forest m bare)
-  phase_rule mark s told ready formed (root_to_come m bare) = by_mode (IsPhase is_framed) mark modes.BeforeHtml s
+  phase_rule mark s emitted ready formed (root_to_come m bare) = by_mode (IsPhase is_framed) mark modes.BeforeHtml s
       (none_here mark s ready.page bare.stack) m (before_html_row is_framed mark s ready.sound.forest m bare)
-  phase_rule mark s told ready formed (head_to_come root is) = by_mode (IsPhase is_framed) mark modes.BeforeHead s
+  phase_rule mark s emitted ready formed (head_to_come root is) = by_mode (IsPhase is_framed) mark modes.BeforeHead s
       (html_here mark root [] (codes "html") s ready.page is.stack
       (is.nodes.named root (inr (inl refl)) ∙ root_title root root root (codes "html"))) is.mode
       (before_head_row is_framed root mark s is)
-  phase_rule mark s told ready formed (body_to_come root head early stack) =
-      early_rule root head mark s told ready formed early stack
-  phase_rule mark s told ready formed (template_open within_head root head top apart steady refused counted) =
+  phase_rule mark s emitted ready formed (body_to_come root head early stack) =
+      early_rule root head mark s emitted ready formed early stack
+  phase_rule mark s emitted ready formed (template_open within_head root head top apart steady refused counted) =
       template_rule is_framed within_head root head top apart mark s steady refused counted
-  phase_rule mark s told ready formed (built is) =
-      as_phase (rule mark s) s (built_rule mark s told ready formed is)
+  phase_rule mark s emitted ready formed (built is) =
+      as_phase (rule mark s) s (built_rule mark s emitted ready formed is)
 
   -- after what is asked for
   pub entered_ready : (ask : Ask) (s : State) → Ready s → Ready (entered ask s)
@@ -175,25 +172,25 @@ module _ (is_framed : Bool) (keep : ActionsKeep) where
   given_on : (P : State → Type 0) (r : Row) (s : State) (further : State → Settled) → Ready s → IsFormed s →
       ComesTo P s r → ((t : State) → IsOn P t → IsOn P (further t).state) → IsOn P (given_by r s further).state
   given_on P (done actions) s further ready formed comes more =
-      let behind = all_formed keep actions s ready formed in
-      record { ready = behind.0; formed = behind.1; phase = comes }
+      let trailing = all_formed keep actions s ready formed in
+      record { ready = trailing.0; formed = trailing.1; phase = comes }
   given_on P (asks ask actions) s further ready formed comes more =
-      let behind = all_formed keep actions s ready formed in
+      let trailing = all_formed keep actions s ready formed in
       record {
-        ready = entered_ready ask (act_all actions s) behind.0;
-        formed = entered_formed ask (act_all actions s) behind.1;
+        ready = entered_ready ask (act_all actions s) trailing.0;
+        formed = entered_formed ask (act_all actions s) trailing.1;
         phase = comes;
       }
   given_on P (again actions) s further ready formed comes more =
-      let behind = all_formed keep actions s ready formed in
-      more (act_all actions s) (record { ready = behind.0; formed = behind.1; phase = comes })
+      let trailing = all_formed keep actions s ready formed in
+      more (act_all actions s) (record { ready = trailing.0; formed = trailing.1; phase = comes })
 
   -- a mark is taken by as many rules as it takes
-  pub settled_on : (k : ℕ) (mark : Mark) (s : State) → IsToldMark is_framed mark → IsOn (IsPhase is_framed) s →
+  pub settled_on : (k : ℕ) (mark : TreeToken) (s : State) → IsEmittedMark is_framed mark → IsOn (IsPhase is_framed) s →
       IsOn (IsPhase is_framed) (settle k mark s).state
-  settled_on zero mark s told on = on
-  settled_on (suc k) mark s told on = given_on (IsPhase is_framed) (rule mark s) s (settle k mark) on.ready on.formed
-      (phase_rule mark s told on.ready on.formed on.phase) (λ t now. settled_on k mark t told now)
+  settled_on zero mark s emitted on = on
+  settled_on (suc k) mark s emitted on = given_on (IsPhase is_framed) (rule mark s) s (settle k mark) on.ready on.formed
+      (phase_rule mark s emitted on.ready on.formed on.phase) (λ t now. settled_on k mark t emitted now)
 
 -- in front of the body the end of the page is handed on
 abbrev pub is_again : Row → Bool

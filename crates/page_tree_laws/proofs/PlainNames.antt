@@ -1,8 +1,7 @@
 -- Names of tags and their groups: what is neither `template` nor `frameset` is of neither group, and what is of the
 -- group of `colgroup` has that name.
-use Rattle.std.proofs.Common.{◌≡◌, ℕ, ◌⊎◌, inl, inr, ◌||◌, Bool, true, false, if◌then◌else◌, List, [], ◌∷◌, codes}
-use Rattle.std.proofs.Common.{bytes_eq}
-use Rattle.std.proofs.Common.{refl, sym, subst, ◌∙◌}
+use Rattle.std.proofs.Common.{◌≡◌, ◌⊎◌, ◌||◌, if◌then◌else◌, [], ◌∷◌, ◌∙◌, Bool, List, bytes_eq, codes, false, inl, inr}
+use Rattle.std.proofs.Common.{refl, subst, sym, true, ℕ}
 use Rattle.std.proofs.lemmas.Bool.{cases_Bool}
 use Rattle.std.proofs.lemmas.Slice.Eq.{bytes_eq-Decides}
 use Rattle.tree_names.specs.Sets.{is_one_of}

@@ -1,17 +1,16 @@
 -- What holds between two items of a page without templates and framesets, and what a row gives there: each character
 -- that is kept stands in the texts of the tree, or waits, as often as before, and one that is emitted once more.
-use Rattle.std.proofs.Common.{◌≡◌, ℕ, ◌+◌, ◌==◌, Bool, true, false, if◌then◌else◌, List, [], ◌∷◌}
-use Rattle.std.proofs.Common.{◌++◌, None, codes, refl, sym, ap, subst, ◌∙◌, eqb-true, arith}
+use Rattle.std.proofs.Common.{◌≡◌, ◌+◌, ◌==◌, if◌then◌else◌, [], ◌∷◌, ◌++◌, ◌∙◌, Bool, List, None, ap, arith, codes}
+use Rattle.std.proofs.Common.{eqb-true, false, refl, subst, sym, true, ℕ}
 use Rattle.html_tree_state.specs.Building.{Building}
 use Rattle.html_tree_state.specs.OpenElements.{below_current}
 use Rattle.tree_names.specs.Wanted.{one}
 use Rattle.rules_table.specs.Actions.{Action, act, act_all, is_current, say}
 use Rattle.rules_table.specs.Asking.{collects_text}
 use Rattle.rules_table.specs.Rows.{Row, TextRow, again, asks, done, dropped, for_character, for_null, is_white_space}
-use Rattle.rules_table.specs.Rows.{kept, said_behind, then_again}
+use Rattle.rules_table.specs.Rows.{kept, said_after, then_again}
 use Rattle.rules_table.specs.Settling.{entered}
-use Rattle.rules_table.specs.State.{Ask, State, encoding, nothing}
-use Rattle.rules_table.specs.State.{plaintext, raw, script}
+use Rattle.rules_table.specs.State.{Ask, State, encoding, nothing, plaintext, raw, script}
 use Rattle.tree_predicates.specs.declared.modes.InsertionMode.TheVariants as modes
 use Rattle.page_tree_laws.proofs.CleanLists.{AreFormatting}
 use Rattle.page_tree_laws.proofs.CleanWords.{AreFree, IsClean}
@@ -143,8 +142,8 @@ space_goes d s space plain = record {
 }
 
 -- characters are said after mild actions
-one_behind_another : (x y z n k p q : ℕ) → y ≡ x → z ≡ y + n → q ≡ k → p ≡ k → z + q ≡ (x + p) + n
-one_behind_another x y z n k p q e h i j = omega (arith, e, h, i, j)
+one_after_another : (x y z n k p q : ℕ) → y ≡ x → z ≡ y + n → q ≡ k → p ≡ k → z + q ≡ (x + p) + n
+one_after_another x y z n k p q e h i j = omega (arith, e, h, i, j)
 
 pub say_keeps : (cs : List ℕ) (s : State) → IsUsual s → IsUsual (act (say cs) s)
 unfolding act
@@ -167,20 +166,20 @@ said_comes actions cs are s usual =
     let last : IsUsual (act (say cs) after) = say_keeps cs after meek.usual in
     record {
       plain = usually last;
-      grows = λ c is. one_behind_another (in_texts c s.tree.forest) (in_texts c after.tree.forest)
+      grows = λ c is. one_after_another (in_texts c s.tree.forest) (in_texts c after.tree.forest)
           (in_texts c (act (say cs) after).tree.forest) (how_often c cs) 0 (how_often c s.pending)
           (how_often c (act (say cs) after).pending) (meek.texts c) (spoken.texts c)
           (ap (how_often c) last.modes.pending) (ap (how_often c) usual.modes.pending);
     }
 
-act_behind : (xs : List Action) (y : Action) (s : State) → act_all (xs ++ y ∷ []) s ≡ act y (act_all xs s)
-act_behind [] y s = refl
-act_behind (x ∷ xs) y s = act_behind xs y (act x s)
+act_after : (xs : List Action) (y : Action) (s : State) → act_all (xs ++ y ∷ []) s ≡ act y (act_all xs s)
+act_after [] y s = refl
+act_after (x ∷ xs) y s = act_after xs y (act x s)
 
 -- what a mode makes of a character
 abbrev pub GivesText : State → Bool → TextRow → Type 0
 GivesText s is_space dropped = is_space ≡ true
-GivesText s is_space (said_behind actions) = AreMild actions
+GivesText s is_space (said_after actions) = AreMild actions
 GivesText s is_space kept = ⊥
 GivesText s is_space (then_again actions) = Comes [] s (act_all actions s)
 
@@ -192,13 +191,13 @@ text_if false is_space s x y f g = g
 pub of_character : (d : ℕ) (s : State) (r : TextRow) → GivesText s (is_white_space d) r → IsUsual s →
     Gives (d ∷ []) s (for_character d r)
 of_character d s dropped is usual = space_goes d s is (usually usual)
-of_character d s (said_behind actions) are usual = subst (Comes (d ∷ []) s)
-    (sym (act_behind actions (say (d ∷ [])) s)) (said_comes actions (d ∷ []) are s usual)
+of_character d s (said_after actions) are usual = subst (Comes (d ∷ []) s)
+    (sym (act_after actions (say (d ∷ [])) s)) (said_comes actions (d ∷ []) are s usual)
 of_character d s kept none usual = absurd none
 of_character d s (then_again actions) comes usual = comes
 
 pub of_null : (s : State) (r : TextRow) → GivesText s false r → IsUsual s → Gives [] s (for_null r)
 of_null s dropped is usual = stays s (usually usual)
-of_null s (said_behind actions) are usual = stays s (usually usual)
+of_null s (said_after actions) are usual = stays s (usually usual)
 of_null s kept none usual = absurd none
 of_null s (then_again actions) comes usual = comes

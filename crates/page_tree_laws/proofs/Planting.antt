@@ -1,15 +1,12 @@
 -- An element that is made and put below a node becomes the last of its child elements; all others keep theirs.
-use Rattle.std.proofs.Common.{◌≡◌, ℕ, zero, suc, ◌<◌, Bool, true, false, List}
-use Rattle.std.proofs.Common.{[], ◌∷◌, ◌++◌, None, Some, refl, sym, ap, subst}
-use Rattle.std.proofs.Common.{◌∙◌, ◌≤◌, inl, if◌then◌else◌, arith}
+use Rattle.std.proofs.Common.{◌≡◌, ◌<◌, [], ◌∷◌, ◌++◌, ◌∙◌, ◌≤◌, if◌then◌else◌, Bool, List, None, Some, ap, arith}
+use Rattle.std.proofs.Common.{false, inl, refl, subst, suc, sym, true, zero, ℕ}
 use Rattle.tree_forest.specs.Changes.{changed, made, made_element}
-use Rattle.tree_forest.specs.Forest.{Element, Forest, Holds, Node, children_at, contents_of, element}
-use Rattle.tree_forest.specs.Forest.{element_of, kind_at}
-use Rattle.tree_forest.specs.Forest.{name_of, node_at, nodes}
+use Rattle.tree_forest.specs.Forest.{Element, Forest, Holds, Node, children_at, contents_of, element, element_of}
+use Rattle.tree_forest.specs.Forest.{kind_at, name_of, node_at, nodes}
 use Rattle.tree_forest.specs.Orders.{IsForest, IsIn, of_child}
-use Rattle.tree_forest.specs.Places.{behind, below, put_node}
-use Rattle.tree_forest.proofs.Nodes.{changed_has, children_made, contents_made, kept, kind_new, size_changed}
-use Rattle.tree_forest.proofs.Nodes.{size_made}
+use Rattle.tree_forest.specs.Places.{trailing, below, put_node}
+use Rattle.tree_forest.proofs.Nodes.{changed_has, children_made, contents_made, kept, kind_new, size_changed, size_made}
 use Rattle.html_lexemes.specs.declared.names.Attribute.{Attribute}
 use Rattle.html_lexemes.specs.declared.names.QualName.{QualName}
 use Rattle.page_tree_laws.proofs.ElementLists.{elements_append, elements_same}
@@ -53,13 +50,13 @@ same_like f h same size = record {
 
 -- an element without contents
 plain_planted : (p : ℕ) (e : Element) (f : Forest) → e.contents ≡ None → Holds p f → AreWithin f →
-    IsPlanted p e.name f (changed p (behind (nodes f)) (made (element e) f))
+    IsPlanted p e.name f (changed p (trailing (nodes f)) (made (element e) f))
 plain_planted p e f plain held within =
     let g = made (element e) f in
-    let h = changed p (behind (nodes f)) g in
+    let h = changed p (trailing (nodes f)) g in
     let first : IsLike f g = made_like (element e) f plain in
-    let same : (n : ℕ) → kind_at n h ≡ kind_at n g = λ n. kept (λ x. x.kind) (behind (nodes f)) p n g (λ x. refl) in
-    let like : IsLike f h = like_on f g h first (same_like g h same (size_changed p (behind (nodes f)) g)) in
+    let same : (n : ℕ) → kind_at n h ≡ kind_at n g = λ n. kept (λ x. x.kind) (trailing (nodes f)) p n g (λ x. refl) in
+    let like : IsLike f h = like_on f g h first (same_like g h same (size_changed p (trailing (nodes f)) g)) in
     let new : kind_at (nodes f) h ≡ element e = same (nodes f) ∙ kind_new (element e) f in
     let there : Holds (nodes f) g = one_more (nodes f) (nodes g) (size_made (element e) f) in
     let still : AreWithin g = λ q c i. still_held c (nodes f) (nodes g)
@@ -69,18 +66,18 @@ plain_planted p e f plain held within =
     record {
       like = like;
       there = ap (λ x. elements_among h x.children)
-          (changed_here p (behind (nodes f)) g (still_held p (nodes f) (nodes g) held first.size))
+          (changed_here p (trailing (nodes f)) g (still_held p (nodes f) (nodes g) held first.size))
           ∙ (ap (λ ns. elements_among h (ns ++ nodes f ∷ [])) (children_made p (element e) f)
           ∙ (elements_append h (children_at p f) (nodes f ∷ [])
           ∙ (ap (λ ns. ns ++ elements_among h (nodes f ∷ [])) (before p)
           ∙ ap (λ (b : Bool). child_elements p f ++ (if b then nodes f ∷ [] else [])) (ap is_element new))));
       elsewhere = λ q apart. changed_has (λ x. elements_among h x.children ≡ child_elements q f) q p
-          (behind (nodes f)) g (ap (elements_among h) (children_made q (element e) f) ∙ before q)
+          (trailing (nodes f)) g (ap (elements_among h) (children_made q (element e) f) ∙ before q)
           (λ same_node. absurd (apart same_node));
       within = λ q c i. still_held c (nodes g) (nodes h) (below_within p (nodes f) g there still q c i)
-          (same_like g h same (size_changed p (behind (nodes f)) g)).size;
+          (same_like g h same (size_changed p (trailing (nodes f)) g)).size;
       held = still_held (nodes f) (nodes g) (nodes h) there
-          (same_like g h same (size_changed p (behind (nodes f)) g)).size;
+          (same_like g h same (size_changed p (trailing (nodes f)) g)).size;
       named = ap (λ k. (element_of k).name) new;
       contents = λ n c k. sym (ap (λ x. (element_of x).contents) (same n) ∙ contents_made n (element e) f plain) ∙ k;
     }

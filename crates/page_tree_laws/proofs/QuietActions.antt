@@ -1,6 +1,5 @@
 -- Actions that change neither the stack of open elements nor the child elements of the document and the root.
-use Rattle.std.proofs.Common.{◌≡◌, ℕ, ◌<◌, suc, Bool, true, false, if◌then◌else◌, List, codes}
-use Rattle.std.proofs.Common.{refl, sym, subst, arith}
+use Rattle.std.proofs.Common.{◌≡◌, ◌<◌, if◌then◌else◌, Bool, List, arith, codes, false, refl, subst, suc, sym, true, ℕ}
 use Rattle.tree_forest.specs.Changes.{made, made_element}
 use Rattle.tree_forest.specs.Forest.{Forest, Holds, comment, is_in, nodes}
 use Rattle.tree_forest.specs.Places.{Place, below}
@@ -14,8 +13,7 @@ use Rattle.page_tree_laws.proofs.EarlySteps.{element_put, kept_same}
 use Rattle.page_tree_laws.proofs.GuardedForests.{KeptOn}
 use Rattle.page_tree_laws.proofs.GuardedTexts.{attributes_kept, leaf_kept, words_kept}
 use Rattle.page_tree_laws.proofs.Guards.{Guard, IsKeptForest}
-use Rattle.rules_table.specs.Actions.{act, add_attributes}
-use Rattle.rules_table.specs.Actions.{insert_comment, say}
+use Rattle.rules_table.specs.Actions.{act, add_attributes, insert_comment, say}
 use Rattle.rules_table.specs.State.{State}
 use Rattle.tree_predicates.specs.Attributes.{is_html_annotation}
 

@@ -1,16 +1,14 @@
 -- What a mark comes to where the root is open, and the head is to come.
-use Rattle.std.proofs.Common.{◌≡◌, ℕ, Bool, true, false, List, [], ◌∷◌, ◌++◌}
-use Rattle.std.proofs.Common.{Option, None, Some, inl, inr, codes, refl, sym, ap, subst, ◌∙◌}
+use Rattle.std.proofs.Common.{◌≡◌, [], ◌∷◌, ◌++◌, ◌∙◌, Bool, List, None, Option, Some, ap, codes, false, inl, inr, refl}
+use Rattle.std.proofs.Common.{subst, sym, true, ℕ}
 use Rattle.tree_formatting.specs.Entries.{Entry}
 use Rattle.tree_forest.specs.Changes.{made}
-use Rattle.tree_forest.specs.Forest.{Forest, Holds}
-use Rattle.tree_forest.specs.Forest.{name_of, nodes}
+use Rattle.tree_forest.specs.Forest.{Forest, Holds, name_of, nodes}
 use Rattle.tree_forest.specs.Places.{below}
 use Rattle.html_lexemes.specs.declared.names.Attribute.{Attribute}
 use Rattle.html_lexemes.specs.declared.token.Tag.{Tag}
 use Rattle.html_tree_state.specs.Building.{Building}
-use Rattle.html_tree_state.specs.Insertions.{here, inserted, inserted_at}
-use Rattle.html_tree_state.specs.Insertions.{with_element}
+use Rattle.html_tree_state.specs.Insertions.{here, inserted, inserted_at, with_element}
 use Rattle.html_tree_state.specs.OpenElements.{first_of}
 use Rattle.html_tree_state.specs.Sound.{IsListed}
 use Rattle.tree_names.specs.ElementSets.{foster_targets}
@@ -21,20 +19,19 @@ use Rattle.page_tree_laws.proofs.GroupNames.{head_named}
 use Rattle.page_tree_laws.proofs.GuardKinds.{document_title, root_title, titled_head}
 use Rattle.page_tree_laws.proofs.Fits.{AreLater}
 use Rattle.page_tree_laws.proofs.Guards.{IsFree, IsKept, IsKeptForest}
-use Rattle.page_tree_laws.proofs.Phases.{IsPhase, IsRooted, body_to_come, head_guard}
-use Rattle.page_tree_laws.proofs.Phases.{head_to_come, in_head, root_guard}
+use Rattle.page_tree_laws.proofs.Phases.{IsPhase, IsRooted, body_to_come, head_guard, head_to_come, in_head, root_guard}
 use Rattle.page_tree_laws.proofs.Planting.{IsPlanted, planted}
 use Rattle.page_tree_laws.proofs.QuietActions.{IsQuiet, attributes_quiet, comment_quiet}
 use Rattle.tree_names.specs.Groups.{tag_group}
 use Rattle.tree_names.specs.declared.group.TagGroup.{TagGroup}
 use Rattle.tree_names.specs.declared.group.TagGroup.TheVariants as groups
-use Rattle.rules_table.specs.Actions.{act, act_all, add_attributes, at_place, go_to}
-use Rattle.rules_table.specs.Actions.{in_html, insert, insert_comment, keep_head}
+use Rattle.rules_table.specs.Actions.{act, act_all, add_attributes, at_place, go_to, in_html, insert, insert_comment}
+use Rattle.rules_table.specs.Actions.{keep_head}
 use Rattle.rules_table.specs.Asking.{first_opened, has_template}
 use Rattle.rules_table.specs.BeforeHead.{before_head_end, before_head_start, before_head_text, head_made}
 use Rattle.rules_table.specs.HtmlTag.{given_to, html_start}
 use Rattle.rules_table.specs.Rows.{for_character, ignored, is_white_space}
-use Rattle.rules_table.specs.State.{Mark, State, character, end_of_file, finish, null, start}
+use Rattle.rules_table.specs.State.{TreeToken, State, character, end_of_file, finish, null, start}
 use Rattle.rules_table.specs.State as marks
 use Rattle.rules_table.specs.Table.{row}
 use Rattle.tree_predicates.specs.Attributes.{is_html_annotation}
@@ -190,7 +187,7 @@ module _ (is_framed : Bool) (root : ℕ) where
   head_end groups.LineBreak s is = head_comes s is
   head_end group s is = head_to_come root is
 
-  pub before_head_row : (mark : Mark) (s : State) → IsRooted root s → Comes is_framed s (row modes.BeforeHead mark s)
+  pub before_head_row : (mark : TreeToken) (s : State) → IsRooted root s → Comes is_framed s (row modes.BeforeHead mark s)
   before_head_row (character c) s is = head_text (is_white_space c) c s is
   before_head_row null s is = head_comes s is
   before_head_row (marks.comment cs) s is = rooted_on s (act (insert_comment cs) s) is

@@ -1,6 +1,6 @@
 -- What the items of a page come to; and after its end the skeleton stands.
-use Rattle.std.proofs.Common.{◌≡◌, ℕ, zero, suc, ◌<◌, ◌==◌, ◌&&◌, Bool, true, false, if◌then◌else◌, List, [], ◌∷◌, ◌++◌}
-use Rattle.std.proofs.Common.{fold, None, Some, inl, inr, codes, refl, sym, ap, subst, ◌∙◌, arith}
+use Rattle.std.proofs.Common.{◌≡◌, ◌<◌, ◌==◌, ◌&&◌, if◌then◌else◌, [], ◌∷◌, ◌++◌, ◌∙◌, ◌⊎◌, ◌≤◌, Bool, List, None, Some}
+use Rattle.std.proofs.Common.{ap, arith, codes, false, fold, inl, inr, length, refl, subst, suc, sym, true, zero, ℕ}
 use Rattle.token_grammar.specs.Items.{Item, tag}
 use Rattle.token_grammar.specs.Items as items
 use Rattle.token_grammar.specs.Reading.{Reading, ends, goes, tags}
@@ -13,55 +13,46 @@ use Rattle.page_tree_laws.specs.KeptText.{IsAtBeginning}
 use Rattle.page_tree_laws.specs.PageTexts.{items_of}
 use Rattle.tree_names.specs.Sets.{html_elements, is_element_of, is_html}
 use Rattle.page_tree_laws.proofs.Acting.{flags_held}
-use Rattle.page_tree_laws.proofs.EarlyModes.{IsToldGroup, IsToldMark, closed}
+use Rattle.page_tree_laws.proofs.EarlyModes.{IsEmittedGroup, IsEmittedMark, closed}
 use Rattle.page_tree_laws.proofs.EarlyPhases.{Comes, ComesTo}
 use Rattle.page_tree_laws.proofs.EarlySteps.{kept_same, stack_on}
 use Rattle.page_tree_laws.proofs.Forms.{IsFormed, all_formed}
 use Rattle.page_tree_laws.proofs.GroupNames.{frameset_named}
-use Rattle.page_tree_laws.proofs.GuardKinds.{AreApart, head_title, root_title, third_title}
-use Rattle.page_tree_laws.proofs.Guards.{Guard}
-use Rattle.page_tree_laws.proofs.PhaseRules.{IsOn, built_rule, entered_formed, entered_ready, phase_rule, settled_on}
-use Rattle.page_tree_laws.proofs.PhaseRules.{again_before}
-use Rattle.page_tree_laws.proofs.Phases.{IsBare, IsBuilt, IsPhase, body_open}
-use Rattle.page_tree_laws.proofs.Phases.{body_to_come, built, doctype_to_come, going_on}
-use Rattle.page_tree_laws.proofs.Phases.{head_guard, head_to_come, of_frames}
-use Rattle.page_tree_laws.proofs.Phases.{root_to_come}
+use Rattle.page_tree_laws.proofs.GuardKinds.{AreApart, early_names, head_title, is_of_body, is_of_frames, root_title}
+use Rattle.page_tree_laws.proofs.GuardKinds.{template_guard, third_title}
+use Rattle.page_tree_laws.proofs.Guards.{Guard, HasFreeCurrent, IsKeptForest, base_names, may_stand}
+use Rattle.page_tree_laws.proofs.PhaseRules.{IsOn, again_before, built_rule, entered_formed, entered_ready, is_again}
+use Rattle.page_tree_laws.proofs.PhaseRules.{phase_rule, settled_on}
+use Rattle.page_tree_laws.proofs.Phases.{IsBare, IsBuilt, IsPhase, body_open, body_to_come, built, doctype_to_come}
+use Rattle.page_tree_laws.proofs.Phases.{going_on, head_guard, head_to_come, of_frames, root_guard, root_to_come}
+use Rattle.page_tree_laws.proofs.Phases.{template_open}
 use Rattle.page_tree_laws.proofs.Steady.{IsSteady}
-use Rattle.page_tree_laws.specs.Skeleton.{HasSkeletonOfPage, IsSkeleton, TellsNoFrames, bodies, child_elements}
+use Rattle.page_tree_laws.specs.Skeleton.{EmitsNoFrames, HasSkeletonOfPage, IsSkeleton, bodies, child_elements}
 use Rattle.page_tree_laws.specs.Skeleton.{is_unframed, is_unframed_name}
 use Rattle.tree_names.specs.Groups.{tag_group}
 use Rattle.tree_names.specs.declared.group.TagGroup.{TagGroup}
 use Rattle.tree_names.specs.declared.group.TagGroup.TheVariants as groups
 use Rattle.rules_table_laws.specs.Falls.{Falls}
 use Rattle.page_tree_laws.proofs.PageReady.{ActionsKeep, Ready, of_page}
-use Rattle.rules_table.specs.Actions.{act_all}
+use Rattle.rules_table.specs.Actions.{act_all, in_html, is_text}
 use Rattle.rules_table.specs.Rank.{rank}
 use Rattle.rules_table.specs.Rows.{Row, again, asks, done}
 use Rattle.rules_table.specs.Rule.{rule}
 use Rattle.rules_table.specs.Settling.{Settled, given_by, mark_by, meaning, over, past_tag, step, taken}
 use Rattle.rules_table.specs.Settling.{taken_character}
-use Rattle.rules_table.specs.State.{Mark, State, character, end_of_file, null}
+use Rattle.rules_table.specs.State.{TreeToken, State, character, end_of_file, null}
 use Rattle.rules_table.specs.State as marks
-use Rattle.std.proofs.Common.{◌⊎◌}
 use Rattle.tree_forest.specs.Forest.{Forest}
 use Rattle.page_tree_laws.proofs.BodyPlanting.{third_guard}
-use Rattle.page_tree_laws.proofs.GuardKinds.{early_names, is_of_body, is_of_frames}
 use Rattle.page_tree_laws.proofs.GuardedForests.{KeptOn}
-use Rattle.page_tree_laws.proofs.Guards.{HasFreeCurrent, IsKeptForest, base_names, may_stand}
-use Rattle.page_tree_laws.proofs.PhaseRules.{is_again}
-use Rattle.page_tree_laws.proofs.Phases.{root_guard}
-use Rattle.rules_table.specs.Actions.{in_html, is_text}
 use Rattle.tree_predicates.specs.declared.modes.InsertionMode.{InsertionMode}
-use Rattle.std.proofs.Common.{◌≤◌, length}
-use Rattle.page_tree_laws.proofs.GuardKinds.{template_guard}
-use Rattle.page_tree_laws.proofs.Phases.{template_open}
 use Rattle.page_tree_laws.proofs.TemplateLists.{templates_in}
 
 -- the laws that are cited: actions keep what is ready, the rank falls, and a mark comes to what its rule gives
 pub record Facts : Type 0 where
   pub keep : ActionsKeep
-  pub falls : (mark : Mark) (s : State) → Ready s → Falls mark s (rule mark s)
-  pub comes : (mark : Mark) (s : State) → Ready s → taken mark s ≡ given_by (rule mark s) s (taken mark)
+  pub falls : (mark : TreeToken) (s : State) → Ready s → Falls mark s (rule mark s)
+  pub comes : (mark : TreeToken) (s : State) → Ready s → taken mark s ≡ given_by (rule mark s) s (taken mark)
 
 -- a state that is another one but for flags that no phase speaks of
 record IsAlike (s t : State) : Type 0 where
@@ -129,21 +120,21 @@ phase_alike is_framed s t alike (template_open in_head root head top apart stead
 phase_alike is_framed s t alike (built is) = built (built_alike is_framed s t alike is)
 
 -- an item emits no start tag that is left out
-abbrev pub IsToldItem : Bool → Item → Type 0
-IsToldItem is_framed (items.tag t) = IsToldMark is_framed (mark_by t.kind t)
-IsToldItem is_framed _ = Unit {0}
+abbrev pub IsEmittedItem : Bool → Item → Type 0
+IsEmittedItem is_framed (items.tag t) = IsEmittedMark is_framed (mark_by t.kind t)
+IsEmittedItem is_framed _ = Unit {0}
 
-abbrev pub AreTold : Bool → List Item → Type 0
-AreTold is_framed [] = Unit {0}
-AreTold is_framed (item ∷ more) = IsToldItem is_framed item × AreTold is_framed more
+abbrev pub AreEmitted : Bool → List Item → Type 0
+AreEmitted is_framed [] = Unit {0}
+AreEmitted is_framed (item ∷ more) = IsEmittedItem is_framed item × AreEmitted is_framed more
 
-told_front : (is_framed : Bool) (xs ys : List Item) → AreTold is_framed (xs ++ ys) → AreTold is_framed xs
-told_front is_framed [] ys are = tt
-told_front is_framed (x ∷ xs) ys are = (are.0, told_front is_framed xs ys are.1)
+emitted_front : (is_framed : Bool) (xs ys : List Item) → AreEmitted is_framed (xs ++ ys) → AreEmitted is_framed xs
+emitted_front is_framed [] ys are = tt
+emitted_front is_framed (x ∷ xs) ys are = (are.0, emitted_front is_framed xs ys are.1)
 
-told_back : (is_framed : Bool) (xs ys : List Item) → AreTold is_framed (xs ++ ys) → AreTold is_framed ys
-told_back is_framed [] ys are = are
-told_back is_framed (x ∷ xs) ys are = told_back is_framed xs ys are.1
+emitted_back : (is_framed : Bool) (xs ys : List Item) → AreEmitted is_framed (xs ++ ys) → AreEmitted is_framed ys
+emitted_back is_framed [] ys are = are
+emitted_back is_framed (x ∷ xs) ys are = emitted_back is_framed xs ys are.1
 
 none_below : (x : ℕ) → x < 0 → ⊥
 none_below x h = omega (arith, h)
@@ -245,8 +236,8 @@ module _ (is_framed : Bool) (facts : Facts) where
     phase = phase_alike is_framed s (over s) (over_alike s) on.phase;
   }
 
-  taken_on : (mark : Mark) (s : State) → IsToldMark is_framed mark → On s → On (taken mark s).state
-  taken_on mark s told on = settled_on is_framed facts.keep (suc (rank mark s)) mark s told on
+  taken_on : (mark : TreeToken) (s : State) → IsEmittedMark is_framed mark → On s → On (taken mark s).state
+  taken_on mark s emitted on = settled_on is_framed facts.keep (suc (rank mark s)) mark s emitted on
 
   left_by : (b : Bool) (s t : State) → On s → On t → On (if b then s else t)
   left_by true s t on other = on
@@ -260,17 +251,17 @@ module _ (is_framed : Bool) (facts : Facts) where
   characters_on [] s on = on
   characters_on (c ∷ cs) s on = characters_on cs (taken_character s c) (character_on c s on)
 
-  step_on : (item : Item) (s : State) → IsToldItem is_framed item → On s → On (step s item)
-  step_on (items.characters cs) s told on = characters_on cs s on
-  step_on items.null_character s told on = taken_on null (past_tag s) tt (past_on s on)
-  step_on (items.tag t) s told on = taken_on (mark_by t.kind t) (past_tag s) told (past_on s on)
-  step_on (items.comment cs) s told on = taken_on (marks.comment cs) (past_tag s) tt (past_on s on)
-  step_on (items.doctype d) s told on = taken_on (marks.doctype d) (past_tag s) tt (past_on s on)
-  step_on items.error s told on = past_on s on
-  step_on items.end_of_file s told on =
+  step_on : (item : Item) (s : State) → IsEmittedItem is_framed item → On s → On (step s item)
+  step_on (items.characters cs) s emitted on = characters_on cs s on
+  step_on items.null_character s emitted on = taken_on null (past_tag s) tt (past_on s on)
+  step_on (items.tag t) s emitted on = taken_on (mark_by t.kind t) (past_tag s) emitted (past_on s on)
+  step_on (items.comment cs) s emitted on = taken_on (marks.comment cs) (past_tag s) tt (past_on s on)
+  step_on (items.doctype d) s emitted on = taken_on (marks.doctype d) (past_tag s) tt (past_on s on)
+  step_on items.error s emitted on = past_on s on
+  step_on items.end_of_file s emitted on =
       over_on (taken end_of_file (past_tag s)).state (taken_on end_of_file (past_tag s) tt (past_on s on))
 
-  items_on : (told : List Item) (s : State) → AreTold is_framed told → On s → On (fold step s told)
+  items_on : (emitted : List Item) (s : State) → AreEmitted is_framed emitted → On s → On (fold step s emitted)
   items_on [] s are on = on
   items_on (item ∷ more) s are on = items_on more (step s item) are.1 (step_on item s are.0 on)
 
@@ -280,24 +271,24 @@ module _ (is_framed : Bool) (facts : Facts) where
       ((t : State) → On t → rank end_of_file t < rank end_of_file s → Stands (taken end_of_file t).state) →
       Stands (given_by r s (taken end_of_file)).state
   given_end (done actions) s ready formed falls (inl comes) more =
-      let behind = all_formed facts.keep actions s ready formed in
-      record { ready = behind.0; formed = behind.1; phase = comes }
+      let trailing = all_formed facts.keep actions s ready formed in
+      record { ready = trailing.0; formed = trailing.1; phase = comes }
   given_end (done actions) s ready formed falls (inr handed) more = absurd (let k : false ≡ true = handed.1 in cc)
   given_end (asks ask actions) s ready formed falls (inl comes) more =
-      let behind = all_formed facts.keep actions s ready formed in
+      let trailing = all_formed facts.keep actions s ready formed in
       record {
-        ready = entered_ready is_framed facts.keep ask (act_all actions s) behind.0;
-        formed = entered_formed is_framed facts.keep ask (act_all actions s) behind.1;
+        ready = entered_ready is_framed facts.keep ask (act_all actions s) trailing.0;
+        formed = entered_formed is_framed facts.keep ask (act_all actions s) trailing.1;
         phase = comes;
       }
   given_end (asks ask actions) s ready formed falls (inr handed) more =
       absurd (let k : false ≡ true = handed.1 in cc)
   given_end (again actions) s ready formed falls (inl comes) more =
-      let behind = all_formed facts.keep actions s ready formed in
-      more (act_all actions s) (record { ready = behind.0; formed = behind.1; phase = built comes }) falls
+      let trailing = all_formed facts.keep actions s ready formed in
+      more (act_all actions s) (record { ready = trailing.0; formed = trailing.1; phase = built comes }) falls
   given_end (again actions) s ready formed falls (inr handed) more =
-      let behind = all_formed facts.keep actions s ready formed in
-      more (act_all actions s) (record { ready = behind.0; formed = behind.1; phase = handed.0 }) falls
+      let trailing = all_formed facts.keep actions s ready formed in
+      more (act_all actions s) (record { ready = trailing.0; formed = trailing.1; phase = handed.0 }) falls
 
   handed_on : (s : State) → On s → IsBuilt is_framed s ⊎ (is_again (rule end_of_file s) ≡ true) →
       ComesTo (IsBuilt is_framed) s (rule end_of_file s)
@@ -314,16 +305,16 @@ module _ (is_framed : Bool) (facts : Facts) where
 
   page_stands : {H : Type 0} (table : References) (handle : ℕ → H) (mode : Mode) (s : State) (cs : List ℕ)
       (final : State) (reading : Reading table (meaning handle) mode s cs final) → On s →
-      AreTold is_framed (items_of reading) → IsSkeleton is_framed final.tree.forest
+      AreEmitted is_framed (items_of reading) → IsSkeleton is_framed final.tree.forest
   page_stands table handle mode s cs final (ends _ _ _ _ nothing_left e) on are =
-      let behind = stands_within (suc (rank end_of_file (past_tag s))) (past_tag s)
+      let trailing = stands_within (suc (rank end_of_file (past_tag s))) (past_tag s)
       (just_below (rank end_of_file (past_tag s))) (past_on s on) in
       subst (λ (t : State). IsSkeleton is_framed t.tree.forest) (sym e)
-      (built_stands is_framed (taken end_of_file (past_tag s)).state behind.phase)
-  page_stands table handle mode s cs final (goes _ _ _ told behind rest _ is further) on are =
-      page_stands table handle behind (fold step s told) rest final further
-      (items_on told s (told_front is_framed told (items_of further) are) on)
-      (told_back is_framed told (items_of further) are)
+      (built_stands is_framed (taken end_of_file (past_tag s)).state trailing.phase)
+  page_stands table handle mode s cs final (goes _ _ _ emitted trailing rest _ is further) on are =
+      page_stands table handle trailing (fold step s emitted) rest final further
+      (items_on emitted s (emitted_front is_framed emitted (items_of further) are) on)
+      (emitted_back is_framed emitted (items_of further) are)
   page_stands table handle mode s cs final (tags _ _ _ t rest _ is further) on are =
       page_stands table handle _ (step s (tag t)) rest final further (step_on (items.tag t) s are.0 on) are.1
 
@@ -344,7 +335,7 @@ module _ (is_framed : Bool) (facts : Facts) where
 
 -- what is emitted, by its start tags
 framed_by : (is_framed : Bool) (name : List ℕ) (group : TagGroup) → tag_group name ≡ group →
-    (is_framed ≡ false → is_unframed_name StartTag name ≡ true) → IsToldGroup is_framed group
+    (is_framed ≡ false → is_unframed_name StartTag name ≡ true) → IsEmittedGroup is_framed group
 framed_by true name groups.Frameset e unframed = refl
 framed_by false name groups.Frameset e unframed = absurd (
     let k : is_unframed_name StartTag (codes "frameset") ≡ true =
@@ -352,27 +343,27 @@ framed_by false name groups.Frameset e unframed = absurd (
     let j : false ≡ true = k in cc)
 framed_by is_framed name group e unframed = tt
 
-told_tag : (is_framed : Bool) (kind : TagKind) (t : Tag) → (is_framed ≡ false → is_unframed_name kind t.name ≡ true) →
-    IsToldMark is_framed (mark_by kind t)
-told_tag is_framed StartTag t unframed = framed_by is_framed t.name (tag_group t.name) refl unframed
-told_tag is_framed EndTag t unframed = tt
+emitted_tag : (is_framed : Bool) (kind : TagKind) (t : Tag) → (is_framed ≡ false → is_unframed_name kind t.name ≡ true) →
+    IsEmittedMark is_framed (mark_by kind t)
+emitted_tag is_framed StartTag t unframed = framed_by is_framed t.name (tag_group t.name) refl unframed
+emitted_tag is_framed EndTag t unframed = tt
 
-told_item : (is_framed : Bool) (item : Item) → (is_framed ≡ false → is_unframed item ≡ true) →
-    IsToldItem is_framed item
-told_item is_framed (items.characters cs) unframed = tt
-told_item is_framed items.null_character unframed = tt
-told_item is_framed (items.tag t) unframed = told_tag is_framed t.kind t unframed
-told_item is_framed (items.comment cs) unframed = tt
-told_item is_framed (items.doctype d) unframed = tt
-told_item is_framed items.error unframed = tt
-told_item is_framed items.end_of_file unframed = tt
+emitted_item : (is_framed : Bool) (item : Item) → (is_framed ≡ false → is_unframed item ≡ true) →
+    IsEmittedItem is_framed item
+emitted_item is_framed (items.characters cs) unframed = tt
+emitted_item is_framed items.null_character unframed = tt
+emitted_item is_framed (items.tag t) unframed = emitted_tag is_framed t.kind t unframed
+emitted_item is_framed (items.comment cs) unframed = tt
+emitted_item is_framed (items.doctype d) unframed = tt
+emitted_item is_framed items.error unframed = tt
+emitted_item is_framed items.end_of_file unframed = tt
 
-told_items : (is_framed : Bool) (told : List Item) → (is_framed ≡ false → TellsNoFrames told) → AreTold is_framed told
-told_items is_framed [] unframed = tt
-told_items is_framed (item ∷ more) unframed =
-    (told_item is_framed item (λ e. (unframed e).0), told_items is_framed more (λ e. (unframed e).1))
+emitted_items : (is_framed : Bool) (emitted : List Item) → (is_framed ≡ false → EmitsNoFrames emitted) → AreEmitted is_framed emitted
+emitted_items is_framed [] unframed = tt
+emitted_items is_framed (item ∷ more) unframed =
+    (emitted_item is_framed item (λ e. (unframed e).0), emitted_items is_framed more (λ e. (unframed e).1))
 
 pub page_has_skeleton : Facts → {H : Type 0} → HasSkeletonOfPage H
 page_has_skeleton facts table handle mode s cs final reading begins none is_framed unframed =
     page_stands is_framed facts table handle mode s cs final reading (beginning_on is_framed facts s begins none)
-    (told_items is_framed (items_of reading) unframed)
+    (emitted_items is_framed (items_of reading) unframed)

@@ -1,6 +1,6 @@
 -- What actions say, and that they keep the open elements clean where they insert no element of a barred name.
-use Rattle.std.proofs.Common.{◌≡◌, ℕ, ◌+◌, Bool, true, false, if◌then◌else◌, List, [], ◌∷◌, Option, None, Some, refl}
-use Rattle.std.proofs.Common.{arith}
+use Rattle.std.proofs.Common.{◌≡◌, ◌+◌, if◌then◌else◌, [], ◌∷◌, Bool, List, None, Option, Some, arith, false, refl}
+use Rattle.std.proofs.Common.{true, ℕ}
 use Rattle.tree_formatting.specs.Entries.{before_marker, marker}
 use Rattle.tree_forest.specs.Forest.{comment, is_in}
 use Rattle.tree_forest.specs.Changes.{with_attributes}
@@ -13,33 +13,32 @@ use Rattle.html_lexemes.specs.declared.token.Tag.{Tag}
 use Rattle.html_tree_state.specs.Adoption.{adoption}
 use Rattle.html_tree_state.specs.Building.{Building}
 use Rattle.html_tree_state.specs.Formatting.{inserted_for, inserted_formatting, name_for, reconstructed}
-use Rattle.html_tree_state.specs.Insertions.{commented_at, here, root_of, text_or_none}
-use Rattle.html_tree_state.specs.Insertions.{with_doctype_of}
+use Rattle.html_tree_state.specs.Insertions.{commented_at, here, root_of, text_or_none, with_doctype_of}
 use Rattle.html_tree_state.specs.Scopes.{is_in_scope}
 use Rattle.tree_names.specs.ElementSets.{scope_barriers}
 use Rattle.tree_names.specs.Sets.{Elements, is_one_of}
 use Rattle.tree_names.specs.TagSets.{formatting}
 use Rattle.tree_names.specs.Wanted.{one}
 use Rattle.rules_table.specs.Actions.{Action, act, act_all, add_attributes, adopt, adopt_in_scope, adopted_in_scope}
-use Rattle.rules_table.specs.Actions.{append_doctype, break_out, clear_to_marker, close_foreign, close_item, close_other}
-use Rattle.rules_table.specs.Actions.{close_p, comment_to_document, comment_to_root, forget_form, forget_pending, foster}
-use Rattle.rules_table.specs.Actions.{given_attributes, go_back, go_to, hold_mode, imply_but, in_html, insert}
-use Rattle.rules_table.specs.Actions.{insert_comment, insert_foreign, insert_formatting, insert_named, insert_void}
-use Rattle.rules_table.specs.Actions.{inserted_foreign, inserted_into, inserted_void_into}
-use Rattle.rules_table.specs.Actions.{is_current, keep_form, keep_head, keep_pending, pop, pop_down_to, pop_if}
-use Rattle.rules_table.specs.Actions.{pop_template_mode, pop_to, popped_if, push_template_mode, put_marker, reconstruct}
-use Rattle.rules_table.specs.Actions.{refuse_frameset, reset, say, set_quirks, skip_next_line_feed, take_off, take_out}
-use Rattle.rules_table.specs.Actions.{unlist}
+use Rattle.rules_table.specs.Actions.{append_doctype, break_out, clear_to_marker, close_foreign, close_item}
+use Rattle.rules_table.specs.Actions.{close_other, close_p, comment_to_document, comment_to_root, forget_form}
+use Rattle.rules_table.specs.Actions.{forget_pending, foster, given_attributes, go_back, go_to, hold_mode, imply_but}
+use Rattle.rules_table.specs.Actions.{in_html, insert, insert_comment, insert_foreign, insert_formatting, insert_named}
+use Rattle.rules_table.specs.Actions.{insert_void, inserted_foreign, inserted_into, inserted_void_into, is_current}
+use Rattle.rules_table.specs.Actions.{keep_form, keep_head, keep_pending, pop, pop_down_to, pop_if, pop_template_mode}
+use Rattle.rules_table.specs.Actions.{pop_to, popped_if, push_template_mode, put_marker, reconstruct, refuse_frameset}
+use Rattle.rules_table.specs.Actions.{reset, say, set_quirks, skip_next_line_feed, take_off, take_out, unlist}
 use Rattle.rules_table.specs.State.{State}
 use Rattle.rules_table.specs.declared.target.Target.TheVariants as targets
-use Rattle.page_tree_laws.proofs.CleanAdoption.{adoption_carried, broken_out_carried, closed_item_carried, closed_p_carried}
-use Rattle.page_tree_laws.proofs.CleanAdoption.{foreign_end_carried, implied_carried, other_end_carried}
-use Rattle.page_tree_laws.proofs.CleanAdoption.{out_of_place_carried, pop_carried, popped_down_to_carried}
-use Rattle.page_tree_laws.proofs.CleanAdoption.{popped_to_carried, taken_off_carried, unlisted_carried}
+use Rattle.page_tree_laws.proofs.CleanAdoption.{adoption_carried, broken_out_carried, closed_item_carried}
+use Rattle.page_tree_laws.proofs.CleanAdoption.{closed_p_carried, foreign_end_carried, implied_carried}
+use Rattle.page_tree_laws.proofs.CleanAdoption.{other_end_carried, out_of_place_carried, pop_carried}
+use Rattle.page_tree_laws.proofs.CleanAdoption.{popped_down_to_carried, popped_to_carried, taken_off_carried}
+use Rattle.page_tree_laws.proofs.CleanAdoption.{unlisted_carried}
 use Rattle.page_tree_laws.proofs.CleanLists.{before_marker_formatting, is_barred}
 use Rattle.page_tree_laws.proofs.CleanWords.{IsCarried, IsClean, IsSpoken, carried_if, carried_itself, carried_on}
-use Rattle.page_tree_laws.proofs.CleanWords.{carried_silent, forest_carried, inserted_carried, list_carried, listed_carried}
-use Rattle.page_tree_laws.proofs.CleanWords.{reconstructed_carried, said_spoken, void_carried}
+use Rattle.page_tree_laws.proofs.CleanWords.{carried_silent, forest_carried, inserted_carried, list_carried}
+use Rattle.page_tree_laws.proofs.CleanWords.{listed_carried, reconstructed_carried, said_spoken, void_carried}
 use Rattle.page_tree_laws.proofs.ForestTexts.{attributes_follow, doctype_follows, leaf_follows}
 use Rattle.page_tree_laws.specs.KeptText.{how_often, in_texts}
 

@@ -12,7 +12,7 @@ use Rattle.tree_names.specs.declared.group.TagGroup.{TagGroup}
 use Rattle.tree_names.specs.declared.group.TagGroup.TheVariants as groups
 use Rattle.rules_table.specs.Actions.{Action, act, act_all, go_back, insert_comment, is_text, pop, say}
 use Rattle.rules_table.specs.Rule.{rule}
-use Rattle.rules_table.specs.State.{Mark, State, character, comment, doctype, end_of_file, finish, null, start}
+use Rattle.rules_table.specs.State.{TreeToken, State, character, comment, doctype, end_of_file, finish, null, start}
 use Rattle.rules_table.specs.Table.{row}
 use Rattle.rules_table.specs.TextMode.{text_mode_end}
 use Rattle.tree_predicates.specs.declared.modes.InsertionMode.TheVariants as modes
@@ -59,7 +59,7 @@ module _ (g : Guard) (is : IsGuard g) (resets : ResetsWell g) (s : State)
   ended groups.Script = left
   ended group = left
 
-  text_row : (mark : Mark) → ComesTo P s (row modes.Text mark s)
+  text_row : (mark : TreeToken) → ComesTo P s (row modes.Text mark s)
   text_row (character c) = said (c ∷ [])
   text_row null = leads [] tt steady
   text_row (comment cs) = commented cs
@@ -68,6 +68,6 @@ module _ (g : Guard) (is : IsGuard g) (resets : ResetsWell g) (s : State)
   text_row (finish t) = ended (tag_group t.name)
   text_row end_of_file = left
 
-  pub text_rule : (mark : Mark) → ComesTo P s (rule mark s)
+  pub text_rule : (mark : TreeToken) → ComesTo P s (rule mark s)
   text_rule mark = text_takes P mark s (ap is_text at)
       (subst (λ m. ComesTo P s (row m mark s)) (sym at) (text_row mark))

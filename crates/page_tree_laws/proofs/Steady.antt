@@ -1,18 +1,13 @@
 -- What rows that fit make of a held state: the element whose text is asked for is the current node, and free.
-use Rattle.std.proofs.Common.{◌≡◌, ℕ, ◌<◌, Bool, true, false, List, [], ◌∷◌, Option, None, Some, refl, sym}
-use Rattle.std.proofs.Common.{◌∙◌, arith}
+use Rattle.std.proofs.Common.{◌≡◌, ◌<◌, [], ◌∷◌, ◌∙◌, Bool, List, None, Option, Some, arith, false, refl, sym, true, ℕ}
 use Rattle.tree_forest.specs.Forest.{nodes}
 use Rattle.html_tree_state.specs.Building.{Building}
 use Rattle.page_tree_laws.proofs.Acting.{ResetsWell, act_held, all_held}
 use Rattle.page_tree_laws.proofs.Fits.{FitAll, FitsRow, IsHeld, OpensFor, opens, opens_by}
 use Rattle.page_tree_laws.proofs.Guards.{Guard, HasFreeCurrent, IsFree, IsGuard, IsGuarded}
-use Rattle.rules_table.specs.Actions.{Action, act, act_all}
-use Rattle.rules_table.specs.Actions.{but_text}
-use Rattle.rules_table.specs.Actions.{foster, go_back}
-use Rattle.rules_table.specs.Actions.{go_to, insert, inserted_into}
-use Rattle.rules_table.specs.Actions.{insert_void, is_text}
-use Rattle.rules_table.specs.Actions.{mode_by_elements, out_of_text}
-use Rattle.rules_table.specs.Actions.{refuse_frameset, reset, skip_next_line_feed}
+use Rattle.rules_table.specs.Actions.{Action, act, act_all, but_text, foster, go_back, go_to, insert, insert_void}
+use Rattle.rules_table.specs.Actions.{inserted_into, is_text, mode_by_elements, out_of_text, refuse_frameset, reset}
+use Rattle.rules_table.specs.Actions.{skip_next_line_feed}
 use Rattle.rules_table.specs.Rows.{Row, again, asks, done}
 use Rattle.rules_table.specs.Settling.{entered}
 use Rattle.rules_table.specs.State.{Ask, State, encoding, nothing, plaintext, raw, script}

@@ -1,8 +1,8 @@
 -- Popping, closing and the adoption agency open no template.
-use Rattle.std.proofs.Common.{◌≡◌, ℕ, zero, suc, Bool, true, false, if◌then◌else◌, List, [], ◌∷◌, Option, None, Some}
-use Rattle.std.proofs.Common.{codes, refl, not}
+use Rattle.std.proofs.Common.{◌≡◌, if◌then◌else◌, [], ◌∷◌, Bool, List, None, Option, Some, codes, false, not, refl, suc}
+use Rattle.std.proofs.Common.{true, zero, ℕ}
 use Rattle.std.specs.Bool.{nat_lt}
-use Rattle.tree_formatting.specs.Entries.{Entry, handed_over, is_listed, last_named, moved_behind, tag_in, up_to_marker}
+use Rattle.tree_formatting.specs.Entries.{Entry, handed_over, is_listed, last_named, moved_after, tag_in, up_to_marker}
 use Rattle.tree_formatting.specs.Entries.{without_entry}
 use Rattle.tree_forest.specs.Changes.{detached, left_out, reparented}
 use Rattle.tree_forest.specs.Forest.{Forest, Holds, is_in, nodes}
@@ -165,7 +165,7 @@ entries_at_formatting : (bookmark : Option ℕ) (n copy : ℕ) (es : List Entry)
     AreFormatting (entries_at bookmark n copy es)
 entries_at_formatting None n copy es are = handed_formatting n copy es are
 entries_at_formatting (Some after) n copy es are =
-    formatting_by (is_listed after (up_to_marker (without_entry n es))) (moved_behind n copy after es)
+    formatting_by (is_listed after (up_to_marker (without_entry n es))) (moved_after n copy after es)
     (handed_over n copy es) (moved_formatting n copy after es are) (handed_formatting n copy es are)
 
 taken_over_none : (bookmark : Option ℕ) (n block : ℕ) (tag : Tag) (b : Building) →

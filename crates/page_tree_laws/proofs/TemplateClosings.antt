@@ -1,6 +1,6 @@
 -- The innermost template is closed: another one stays open, or what is lowest is left.
-use Rattle.std.proofs.Common.{◌≡◌, ℕ, ◌≤◌, ◌+◌, inl, inr, ◌&&◌, not, Bool, true, false, if◌then◌else◌}
-use Rattle.std.proofs.Common.{List, [], ◌∷◌, codes, refl, sym, subst, ◌∙◌, arith}
+use Rattle.std.proofs.Common.{◌≡◌, ◌≤◌, ◌+◌, ◌&&◌, if◌then◌else◌, [], ◌∷◌, ◌∙◌, Bool, List, arith, codes, false, inl}
+use Rattle.std.proofs.Common.{inr, not, refl, subst, sym, true, ℕ}
 use Rattle.tree_forest.specs.Forest.{Forest, name_of}
 use Rattle.html_lexemes.specs.declared.names.QualName.{QualName}
 use Rattle.html_tree_state.specs.Insertions.{is_template}

@@ -1,6 +1,6 @@
 -- How many templates are open, and their modes: an action that is even opens none, and leaves the modes as they are.
-use Rattle.std.proofs.Common.{◌≡◌, ℕ, ◌⊎◌, inl, inr, Bool, true, false, if◌then◌else◌, List, [], ◌∷◌, Option, None}
-use Rattle.std.proofs.Common.{Some, codes, refl}
+use Rattle.std.proofs.Common.{◌≡◌, ◌⊎◌, if◌then◌else◌, [], ◌∷◌, Bool, List, None, Option, Some, codes, false, inl, inr}
+use Rattle.std.proofs.Common.{refl, true, ℕ}
 use Rattle.tree_formatting.specs.Entries.{Entry, before_marker, formatted, marker}
 use Rattle.tree_forest.specs.Changes.{with_attributes}
 use Rattle.tree_forest.specs.Forest.{Forest, Holds, comment, is_in}
@@ -31,17 +31,18 @@ use Rattle.page_tree_laws.proofs.TemplateAdoption.{pop_none, popped_down_to_none
 use Rattle.page_tree_laws.proofs.TemplateAdoption.{unlisted_none}
 use Rattle.page_tree_laws.proofs.TemplateLists.{all_fewer}
 pub use Rattle.page_tree_laws.proofs.TemplateLists.{one_template_less, templates_in}
-use Rattle.page_tree_laws.proofs.TemplateWords.{IsPresent, OpensNone, forest_none, inserted_none, list_none, listed_none}
-use Rattle.page_tree_laws.proofs.TemplateWords.{none_if, none_itself, none_on, reconstructed_none, said_none, void_none}
+use Rattle.page_tree_laws.proofs.TemplateWords.{IsPresent, OpensNone, forest_none, inserted_none, list_none}
+use Rattle.page_tree_laws.proofs.TemplateWords.{listed_none, none_if, none_itself, none_on, reconstructed_none}
+use Rattle.page_tree_laws.proofs.TemplateWords.{said_none, void_none}
 use Rattle.rules_table.specs.Actions.{Action, act, add_attributes, adopt, adopt_in_scope, adopted_in_scope}
-use Rattle.rules_table.specs.Actions.{append_doctype, break_out, clear_to_marker, close_foreign, close_item, close_other}
-use Rattle.rules_table.specs.Actions.{close_p, comment_to_document, comment_to_root, forget_form, forget_pending, foster}
-use Rattle.rules_table.specs.Actions.{given_attributes, go_back, go_to, hold_mode, imply_but, in_html, insert}
-use Rattle.rules_table.specs.Actions.{insert_comment, insert_foreign, insert_formatting, insert_named, insert_void}
-use Rattle.rules_table.specs.Actions.{inserted_foreign, inserted_into, inserted_void_into, is_current, keep_form}
-use Rattle.rules_table.specs.Actions.{keep_head, keep_pending, pop, pop_down_to, pop_if, pop_template_mode, pop_to}
-use Rattle.rules_table.specs.Actions.{popped_if, push_template_mode, put_marker, reconstruct, refuse_frameset, reset}
-use Rattle.rules_table.specs.Actions.{say, set_quirks, skip_next_line_feed, take_off, take_out, unlist}
+use Rattle.rules_table.specs.Actions.{append_doctype, break_out, clear_to_marker, close_foreign, close_item}
+use Rattle.rules_table.specs.Actions.{close_other, close_p, comment_to_document, comment_to_root, forget_form}
+use Rattle.rules_table.specs.Actions.{forget_pending, foster, given_attributes, go_back, go_to, hold_mode, imply_but}
+use Rattle.rules_table.specs.Actions.{in_html, insert, insert_comment, insert_foreign, insert_formatting, insert_named}
+use Rattle.rules_table.specs.Actions.{insert_void, inserted_foreign, inserted_into, inserted_void_into, is_current}
+use Rattle.rules_table.specs.Actions.{keep_form, keep_head, keep_pending, pop, pop_down_to, pop_if, pop_template_mode}
+use Rattle.rules_table.specs.Actions.{pop_to, popped_if, push_template_mode, put_marker, reconstruct, refuse_frameset}
+use Rattle.rules_table.specs.Actions.{reset, say, set_quirks, skip_next_line_feed, take_off, take_out, unlist}
 use Rattle.rules_table.specs.State.{State}
 use Rattle.rules_table.specs.declared.target.Target.TheVariants as targets
 

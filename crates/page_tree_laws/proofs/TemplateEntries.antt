@@ -1,8 +1,7 @@
 -- The first template is opened in front of the body.
-use Rattle.std.proofs.Common.{◌≡◌, ℕ, ◌≤◌, ◌<◌, ◌+◌, suc, inl, inr, Bool, true, false, if◌then◌else◌, [], ◌∷◌}
-use Rattle.std.proofs.Common.{length, Option, None, Some, codes, refl, sym, ap, subst, ◌∙◌, arith}
-use Rattle.tree_forest.specs.Forest.{Holds, IsElement, IsElementKind, contents_of, document, kind_at, name_of}
-use Rattle.tree_forest.specs.Forest.{nodes}
+use Rattle.std.proofs.Common.{◌≡◌, ◌≤◌, ◌<◌, ◌+◌, if◌then◌else◌, [], ◌∷◌, ◌∙◌, Bool, None, Option, Some, ap, arith}
+use Rattle.std.proofs.Common.{codes, false, inl, inr, length, refl, subst, suc, sym, true, ℕ}
+use Rattle.tree_forest.specs.Forest.{Holds, IsElement, IsElementKind, contents_of, document, kind_at, name_of, nodes}
 use Rattle.tree_forest.specs.Orders.{IsIn}
 use Rattle.tree_formatting.specs.Entries.{marker}
 use Rattle.html_lexemes.specs.declared.token.Tag.{Tag}
@@ -18,13 +17,12 @@ use Rattle.page_tree_laws.proofs.GroupNames.{template_named}
 use Rattle.page_tree_laws.proofs.GuardKinds.{AreApart, document_title, head_title, lowest_below, root_title}
 use Rattle.page_tree_laws.proofs.GuardKinds.{stands_in_template, template_guard, third_title, titled_head, titles}
 use Rattle.page_tree_laws.proofs.Fits.{AreLater}
-use Rattle.page_tree_laws.proofs.Guards.{AreFreeEntries, AreUnbarred, IsFree, IsKept, IsKeptForest, IsStack}
-use Rattle.page_tree_laws.proofs.Guards.{is_barred, stands}
+use Rattle.page_tree_laws.proofs.Guards.{AreFreeEntries, AreUnbarred, IsFree, IsKept, IsKeptForest, IsStack, is_barred}
+use Rattle.page_tree_laws.proofs.Guards.{stands}
 use Rattle.page_tree_laws.proofs.Phases.{IsEarly, IsPhase, head_guard, template_open}
 use Rattle.page_tree_laws.proofs.TemplateLists.{templates_in}
 use Rattle.rules_table.specs.Actions.{act, act_all, go_to, in_html, insert, inserted_into, is_of_text, is_text}
-use Rattle.rules_table.specs.Actions.{push_template_mode, put_marker}
-use Rattle.rules_table.specs.Actions.{refuse_frameset}
+use Rattle.rules_table.specs.Actions.{push_template_mode, put_marker, refuse_frameset}
 use Rattle.rules_table.specs.State.{State}
 use Rattle.rules_table.specs.declared.target.Target.{Target}
 use Rattle.tree_predicates.specs.declared.modes.InsertionMode.TheVariants as modes

@@ -1,7 +1,7 @@
 -- How many templates are among some elements: of what is left of a stack no more than of the stack, and one less where
 -- it is popped to a template.
-use Rattle.std.proofs.Common.{◌≡◌, ℕ, ◌+◌, ◌≤◌, inl, inr, ◌==◌, Bool, true, false, if◌then◌else◌, List, [], ◌∷◌, codes}
-use Rattle.std.proofs.Common.{refl, ap, arith}
+use Rattle.std.proofs.Common.{◌≡◌, ◌+◌, ◌≤◌, ◌==◌, if◌then◌else◌, [], ◌∷◌, Bool, List, ap, arith, codes, false, inl}
+use Rattle.std.proofs.Common.{inr, refl, true, ℕ}
 use Rattle.tree_forest.specs.Changes.{left_out}
 use Rattle.tree_forest.specs.Forest.{Forest, Holds, is_integration_point, name_of, nodes}
 use Rattle.tree_forest.specs.Orders.{IsIn}

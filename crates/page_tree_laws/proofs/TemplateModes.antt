@@ -1,6 +1,6 @@
 -- Which mode the open elements ask for in a template in front of the body: one that may stand there; and after it.
-use Rattle.std.proofs.Common.{◌≡◌, ℕ, inl, inr, ◌&&◌, Bool, true, false, if◌then◌else◌, List, [], ◌∷◌, map}
-use Rattle.std.proofs.Common.{Option, None, Some, not, option_map, codes, refl, sym, ap, ◌∙◌}
+use Rattle.std.proofs.Common.{◌≡◌, ◌&&◌, if◌then◌else◌, [], ◌∷◌, ◌∙◌, Bool, List, None, Option, Some, ap, codes, false}
+use Rattle.std.proofs.Common.{inl, inr, map, not, option_map, refl, sym, true, ℕ}
 use Rattle.tree_forest.specs.Forest.{Forest, name_of}
 use Rattle.tree_forest.specs.Orders.{IsIn}
 use Rattle.html_lexemes.specs.declared.names.QualName.{QualName}

@@ -1,6 +1,6 @@
 -- What a mark comes to where templates are open in front of the body.
-use Rattle.std.proofs.Common.{◌≡◌, ℕ, ◌≤◌, ◌+◌, suc, Bool, true, false, if◌then◌else◌}
-use Rattle.std.proofs.Common.{length, refl, sym, ap, subst, arith}
+use Rattle.std.proofs.Common.{◌≡◌, ◌≤◌, ◌+◌, if◌then◌else◌, Bool, ap, arith, false, length, refl, subst, suc, sym, true}
+use Rattle.std.proofs.Common.{ℕ}
 use Rattle.html_tree_state.specs.Building.{Building}
 use Rattle.page_tree_laws.proofs.EarlyPhases.{Comes}
 use Rattle.page_tree_laws.proofs.EvenRows.{IsEvenRow, is_no_template}
@@ -10,17 +10,14 @@ use Rattle.page_tree_laws.proofs.GuardKinds.{AreApart, template_guard}
 use Rattle.page_tree_laws.proofs.Phases.{template_open}
 use Rattle.page_tree_laws.proofs.Steady.{Keeps, all_refused, row_keeps}
 use Rattle.page_tree_laws.proofs.TemplateCounts.{guarded_present, templates_in}
-use Rattle.page_tree_laws.proofs.TemplateSteps.{all_none}
-use Rattle.page_tree_laws.proofs.TemplateSteps.{own_is, own_reset}
+use Rattle.page_tree_laws.proofs.TemplateSteps.{all_none, own_is, own_reset}
 use Rattle.tree_names.specs.declared.group.TagGroup.{TagGroup}
 use Rattle.tree_names.specs.declared.group.TagGroup.TheVariants as groups
-use Rattle.rules_table.specs.Actions.{act_all}
-use Rattle.rules_table.specs.Actions.{is_of_text, is_text}
+use Rattle.rules_table.specs.Actions.{act_all, is_of_text, is_text}
 use Rattle.rules_table.specs.Rows.{Row, again, asks, done}
 use Rattle.rules_table.specs.Settling.{entered}
-use Rattle.rules_table.specs.State.{Ask, Mark, State, character, comment}
-use Rattle.rules_table.specs.State.{doctype, encoding, end_of_file, finish, nothing}
-use Rattle.rules_table.specs.State.{null, plaintext, raw, script, start}
+use Rattle.rules_table.specs.State.{Ask, State, TreeToken, character, comment, doctype, encoding, end_of_file, finish}
+use Rattle.rules_table.specs.State.{nothing, null, plaintext, raw, script, start}
 use Rattle.rules_table.specs.Table.{row}
 use Rattle.tree_predicates.specs.declared.modes.InsertionMode.TheVariants as modes
 
@@ -97,7 +94,7 @@ module _ (is_framed : Bool) (in_head : Bool) (root head top : ℕ) (apart : AreA
       (own_reset in_head root head top apart) r s fit held off) held refused counted
 
   -- a table's text is collected
-  pub collected_row : (mark : Mark) (s : State) → s.mode ≡ modes.InTableText →
+  pub collected_row : (mark : TreeToken) (s : State) → s.mode ≡ modes.InTableText →
       FitsRow (template_guard in_head root head top) s (row modes.InTableText mark s)
   collected_row (character c) s at = (tt, tt)
   collected_row null s at = tt

@@ -1,6 +1,6 @@
 -- The rules where templates are open in front of the body: a template more is opened, one is closed, and the table.
-use Rattle.std.proofs.Common.{◌≡◌, ℕ, ◌≤◌, ◌+◌, suc, Bool, true, false, if◌then◌else◌, List, []}
-use Rattle.std.proofs.Common.{◌∷◌, length, codes, refl, sym, ap, subst, ◌∙◌, arith}
+use Rattle.std.proofs.Common.{◌≡◌, ◌≤◌, ◌+◌, if◌then◌else◌, [], ◌∷◌, ◌∙◌, Bool, List, ap, arith, codes, false, length}
+use Rattle.std.proofs.Common.{refl, subst, suc, sym, true, ℕ}
 use Rattle.tree_forest.specs.Forest.{nodes}
 use Rattle.html_lexemes.specs.declared.token.Tag.{Tag}
 use Rattle.html_tree_state.specs.Insertions.{is_template}
@@ -27,29 +27,27 @@ use Rattle.page_tree_laws.proofs.Steady.{IsSteady, all_refused, all_steady}
 use Rattle.page_tree_laws.proofs.TemplateClosings.{IsClosed, another, below_implied, closing, has_one, outermost}
 use Rattle.page_tree_laws.proofs.TemplateClosings.{some_template}
 use Rattle.page_tree_laws.proofs.TemplateCounts.{act_none, guarded_present, one_template_less, templates_in}
-use Rattle.page_tree_laws.proofs.TemplateSteps.{all_none, behind, can_build, later_length, modes_known, own_facts}
-use Rattle.page_tree_laws.proofs.TemplateSteps.{own_is, own_reset, top_named}
+use Rattle.page_tree_laws.proofs.TemplateSteps.{all_none, can_build, later_length, modes_known, own_facts, own_is}
+use Rattle.page_tree_laws.proofs.TemplateSteps.{own_reset, top_named, trailing}
 use Rattle.tree_names.specs.Groups.{tag_group}
 use Rattle.tree_names.specs.declared.group.TagGroup.{TagGroup}
 use Rattle.tree_names.specs.declared.group.TagGroup.TheVariants as groups
-use Rattle.rules_table.specs.Actions.{Action, act, act_all, at_place, break_out}
-use Rattle.rules_table.specs.Actions.{clear_to_marker, go_to, imply_but, insert}
-use Rattle.rules_table.specs.Actions.{insert_void}
-use Rattle.rules_table.specs.Actions.{is_text, later_modes, pop_template_mode, pop_to, push_template_mode}
-use Rattle.rules_table.specs.Actions.{put_marker, refuse_frameset, reset}
+use Rattle.rules_table.specs.Actions.{Action, act, act_all, at_place, break_out, clear_to_marker, go_to, imply_but}
+use Rattle.rules_table.specs.Actions.{insert, insert_void, is_text, later_modes, pop_template_mode, pop_to}
+use Rattle.rules_table.specs.Actions.{push_template_mode, put_marker, refuse_frameset, reset}
 use Rattle.rules_table.specs.Asking.{has_template}
 use Rattle.rules_table.specs.InBody.{in_template_end_of_file}
 use Rattle.rules_table.specs.InHead.{in_head_start, template_end}
 use Rattle.rules_table.specs.InTemplate.{becomes}
 use Rattle.rules_table.specs.Rows.{Row, ignored}
 use Rattle.rules_table.specs.Rule.{rule}
-use Rattle.rules_table.specs.State.{Mark, State, character, comment, doctype, end_of_file, finish}
-use Rattle.rules_table.specs.State.{null, start}
+use Rattle.rules_table.specs.State.{State, TreeToken, character, comment, doctype, end_of_file, finish, null, start}
 use Rattle.rules_table.specs.Table.{end_row, row, start_row}
 use Rattle.rules_table.specs.declared.target.Target.TheVariants as targets
 use Rattle.tree_predicates.specs.declared.modes.InsertionMode.{InsertionMode}
 use Rattle.tree_predicates.specs.declared.modes.InsertionMode.TheVariants as modes
-use Rattle.page_tree_laws.proofs.TemplateRows.{AreCounted, calm_comes, closes_calm, collected_row, counted_on, opens_one}
+use Rattle.page_tree_laws.proofs.TemplateRows.{AreCounted, calm_comes, closes_calm, collected_row, counted_on}
+use Rattle.page_tree_laws.proofs.TemplateRows.{opens_one}
 
 none : {A : Type 0} → false ≡ true → A
 none e = absurd (cc)
@@ -159,7 +157,7 @@ module _ (is_framed : Bool) (in_head : Bool) (root head top : ℕ) (apart : AreA
       refused
       (subst (λ ns. templates_in s.tree.forest ns ≤ length (later_modes s.template_modes))
       (sym (below_implied (html_elements []) s.tree.forest s.tree.stack)) (counted_less s held counted))
-  by_end_tag s held off refused counted e (outermost same) = behind in_head root head top apart is_framed s
+  by_end_tag s held off refused counted e (outermost same) = trailing in_head root head top apart is_framed s
       (act_all (imply_but (html_elements []) ∷ pop_to (one (codes "template")) ∷ clear_to_marker
       ∷ pop_template_mode ∷ []) s) _ held refused refl refl
       (below_implied (html_elements []) s.tree.forest s.tree.stack ∙ same) refl refl refl refl refl refl
@@ -176,7 +174,7 @@ module _ (is_framed : Bool) (in_head : Bool) (root head top : ℕ) (apart : AreA
       (fits_then (template_guard in_head root head top) s (has_template s) _ ignored e
       (file_end_fits (template_guard in_head root head top) s (closes_another s held counted stack has))) held off)
       refused (counted_less s held counted)
-  by_file_end s held off refused counted e (outermost same) = behind in_head root head top apart is_framed s
+  by_file_end s held off refused counted e (outermost same) = trailing in_head root head top apart is_framed s
       (act_all (pop_to (one (codes "template")) ∷ clear_to_marker ∷ pop_template_mode ∷ []) s) _ held refused refl refl
       same refl refl refl refl refl refl
 
@@ -311,7 +309,7 @@ module _ (is_framed : Bool) (in_head : Bool) (root head top : ℕ) (apart : AreA
   file_by modes.InTemplate s at is steady off refused counted = file_ended s steady off refused counted
   file_by m s at is steady off refused counted = none is
 
-  calm_mark : (m : InsertionMode) (mark : Mark) (s : State) → IsCalmMark m mark →
+  calm_mark : (m : InsertionMode) (mark : TreeToken) (s : State) → IsCalmMark m mark →
       ClosesMark (template_guard in_head root head top) s mark → s.mode ≡ m → is_build_mode m ≡ true →
       IsSteady (template_guard in_head root head top) s → is_text s.mode ≡ false → s.frameset_ok ≡ false →
       AreCounted s → Comes is_framed s (row m mark s)
@@ -321,7 +319,7 @@ module _ (is_framed : Bool) (in_head : Bool) (root head top : ℕ) (apart : AreA
       (can_build in_head root head top apart s steady.held refused counted) off at closes) steady.held off refused
       counted
 
-  mode_row : (m : InsertionMode) (mark : Mark) (s : State) → s.mode ≡ m → is_build_mode m ≡ true →
+  mode_row : (m : InsertionMode) (mark : TreeToken) (s : State) → s.mode ≡ m → is_build_mode m ≡ true →
       IsSteady (template_guard in_head root head top) s → is_text s.mode ≡ false → s.frameset_ok ≡ false →
       AreCounted s → Comes is_framed s (row m mark s)
   mode_row m (character c) s at is steady off refused counted =
@@ -368,7 +366,7 @@ module _ (is_framed : Bool) (in_head : Bool) (root head top : ℕ) (apart : AreA
   broken_steady s steady off = all_steady (template_guard in_head root head top) (own_is in_head root head top apart)
       (own_reset in_head root head top apart) (break_out ∷ []) s (tt, tt) steady.held off
 
-  pub template_rule : (mark : Mark) (s : State) → IsSteady (template_guard in_head root head top) s →
+  pub template_rule : (mark : TreeToken) (s : State) → IsSteady (template_guard in_head root head top) s →
       s.frameset_ok ≡ false → AreCounted s → Comes is_framed s (rule mark s)
   template_rule mark s steady refused counted = by (is_text s.mode) refl where
     by : (b : Bool) → is_text s.mode ≡ b → Comes is_framed s (rule mark s)

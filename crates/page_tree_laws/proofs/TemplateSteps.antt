@@ -1,6 +1,6 @@
 -- States in which templates are open in front of the body, and how such a state begins and ends.
-use Rattle.std.proofs.Common.{◌≡◌, ℕ, ◌≤◌, suc, inl, inr, ◌||◌, Bool, true, false, List, []}
-use Rattle.std.proofs.Common.{◌∷◌, map, length, Option, None, bytes_eq, codes, refl, sym, ap, subst, ◌∙◌, arith}
+use Rattle.std.proofs.Common.{◌≡◌, ◌≤◌, ◌||◌, [], ◌∷◌, ◌∙◌, Bool, List, None, Option, ap, arith, bytes_eq, codes, false}
+use Rattle.std.proofs.Common.{inl, inr, length, map, refl, subst, suc, sym, true, ℕ}
 use Rattle.tree_formatting.specs.Entries.{before_marker}
 use Rattle.tree_forest.specs.Forest.{Forest, name_of}
 use Rattle.tree_forest.specs.Orders.{IsIn}
@@ -18,16 +18,17 @@ use Rattle.page_tree_laws.proofs.GroupNames.{element_passes}
 use Rattle.page_tree_laws.proofs.GuardKinds.{AreApart, document_title, head_title, lowest_below, root_title}
 use Rattle.page_tree_laws.proofs.GuardKinds.{template_guard, template_guards, template_names, third_title, titled_head}
 use Rattle.page_tree_laws.proofs.GuardedLists.{cleared_guarded}
-use Rattle.page_tree_laws.proofs.Guards.{AreFreeEntries, HasFree, IsAboveBase, IsFree, IsGuard, IsKept}
-use Rattle.page_tree_laws.proofs.Guards.{IsKeptForest, base_names}
-use Rattle.page_tree_laws.proofs.Phases.{IsEarly, IsEarlyStack, IsPhase, body_to_come, head_guard, past_head}
-use Rattle.page_tree_laws.proofs.Phases.{in_head as stands_in_head}
+use Rattle.page_tree_laws.proofs.Guards.{AreFreeEntries, HasFree, IsAboveBase, IsFree, IsGuard, IsKept, IsKeptForest}
+use Rattle.page_tree_laws.proofs.Guards.{base_names}
+use Rattle.page_tree_laws.proofs.Phases.{IsEarly, IsEarlyStack, IsPhase, body_to_come, head_guard}
+use Rattle.page_tree_laws.proofs.Phases.{in_head as stands_in_head, past_head}
 use Rattle.page_tree_laws.proofs.TemplateClosings.{some_template}
 use Rattle.page_tree_laws.proofs.TemplateCounts.{act_none, modes_stay, templates_in}
 use Rattle.page_tree_laws.proofs.TemplateLists.{fewer_on}
 use Rattle.page_tree_laws.proofs.TemplateModes.{reset_by, template_resets}
 use Rattle.page_tree_laws.proofs.TemplateWords.{IsPresent}
-use Rattle.rules_table.specs.Actions.{Action, act, act_all, but_text, first_mode, in_html, later_modes, mode_by_elements}
+use Rattle.rules_table.specs.Actions.{Action, act, act_all, but_text, first_mode, in_html, later_modes}
+use Rattle.rules_table.specs.Actions.{mode_by_elements}
 use Rattle.rules_table.specs.Asking.{in_scope}
 use Rattle.rules_table.specs.State.{State}
 use Rattle.tree_predicates.specs.Modes.{reset_mode}
@@ -220,9 +221,9 @@ module _ (in_head : Bool) (root head top : ℕ) (apart : AreApart root head top)
   same_title n (inr (inr (inr (inr (inl e))))) = at_root n e
   same_title n (inr (inr (inr (inr (inr i))))) = absurd i
 
-  forest_behind : (f : Forest) → IsKeptForest (template_guard in_head root head top) f →
+  forest_after : (f : Forest) → IsKeptForest (template_guard in_head root head top) f →
       IsKeptForest (head_guard root head) f
-  forest_behind f held = record {
+  forest_after f held = record {
     held = λ n i. held.held n (kept_too n i);
     named = λ n i. held.named n (kept_too n i) ∙ same_title n i;
     others = held.others;
@@ -233,15 +234,15 @@ module _ (in_head : Bool) (root head top : ℕ) (apart : AreApart root head top)
     contents = λ n c e. let was = held.contents n c e in (free_too c was.0, was.1);
   }
 
-  early_behind : (s u : State) → IsHeld (template_guard in_head root head top) s → s.frameset_ok ≡ false →
+  early_after : (s u : State) → IsHeld (template_guard in_head root head top) s → s.frameset_ok ≡ false →
       u.tree.forest ≡ s.tree.forest → u.tree.formatting ≡ before_marker s.tree.formatting → u.head ≡ s.head →
       u.form ≡ s.form → u.template_modes ≡ later_modes s.template_modes → u.frameset_ok ≡ s.frameset_ok →
       IsEarly root head u
-  early_behind s u held refused forest formatting known form templates ok = record {
+  early_after s u held refused forest formatting known form templates ok = record {
     root_made = apart.root_made;
     head_made = apart.head_made;
     head_root = apart.head_root;
-    nodes = subst (IsKeptForest (head_guard root head)) (sym forest) (forest_behind s.tree.forest held.tree.nodes);
+    nodes = subst (IsKeptForest (head_guard root head)) (sym forest) (forest_after s.tree.forest held.tree.nodes);
     listed = subst (λ f. AreFreeEntries (head_guard root head) f u.tree.formatting) (sym forest)
         (subst (AreFreeEntries (head_guard root head) s.tree.forest) (sym formatting)
         (λ n tag i.
@@ -273,12 +274,12 @@ module _ (in_head : Bool) (root head top : ℕ) (apart : AreApart root head top)
   stack_there false u m e = past_head m e
 
   -- a state w, in which what is lowest is open, and u after setting its mode
-  pub behind : (is_framed : Bool) (s w u : State) → IsHeld (template_guard in_head root head top) s →
+  pub trailing : (is_framed : Bool) (s w u : State) → IsHeld (template_guard in_head root head top) s →
       s.frameset_ok ≡ false → w.tree.forest ≡ s.tree.forest → w.tree.formatting ≡ before_marker s.tree.formatting →
       w.tree.stack ≡ lowest_below in_head root head → w.head ≡ s.head → w.form ≡ s.form → w.context ≡ s.context →
       w.template_modes ≡ later_modes s.template_modes → w.frameset_ok ≡ s.frameset_ok →
       u ≡ record w { mode = but_text (mode_by_elements w) } → IsPhase is_framed u
-  behind is_framed s w u held refused forest formatting stack known form page templates ok same =
+  trailing is_framed s w u held refused forest formatting stack known form page templates ok same =
       let mode : but_text (mode_by_elements w) ≡ mode_below in_head =
       ap but_text (reset_by w head (page ∙ held.page) (known ∙ held.head)
       ∙ (ap (reset_mode None true (first_mode w.template_modes))
@@ -286,6 +287,6 @@ module _ (in_head : Bool) (root head top : ℕ) (apart : AreApart root head top)
       ∙ (ap (map (λ n. name_of n s.tree.forest)) stack ∙ names_there s held in_head))
       ∙ mode_there (first_mode w.template_modes) in_head)) ∙ no_text in_head in
       subst (IsPhase is_framed) (sym same) (body_to_come root head
-      (early_behind s (record w { mode = but_text (mode_by_elements w) }) held refused forest formatting known form
+      (early_after s (record w { mode = but_text (mode_by_elements w) }) held refused forest formatting known form
       templates ok)
       (stack_there in_head (record w { mode = but_text (mode_by_elements w) }) mode stack))

@@ -1,7 +1,7 @@
 -- Words on a tree that open no template: no more templates are open after them than before. Open elements are there
 -- and listed tags are of formatting elements, before and after.
-use Rattle.std.proofs.Common.{◌≡◌, ℕ, ◌≤◌, ◌⊎◌, inl, inr, Bool, true, false, if◌then◌else◌, List, [], ◌∷◌, codes}
-use Rattle.std.proofs.Common.{refl, sym, ap, subst, ◌∙◌}
+use Rattle.std.proofs.Common.{◌≡◌, ◌≤◌, ◌⊎◌, if◌then◌else◌, [], ◌∷◌, ◌∙◌, Bool, List, ap, codes, false, inl, inr, refl}
+use Rattle.std.proofs.Common.{subst, sym, true, ℕ}
 use Rattle.tree_formatting.specs.Entries.{Entry, formatted, marker}
 use Rattle.tree_forest.specs.Forest.{Forest, Holds, nodes}
 use Rattle.tree_forest.specs.Orders.{IsIn}
@@ -13,7 +13,7 @@ use Rattle.html_tree_state.specs.Building.{Building}
 use Rattle.html_tree_state.specs.Formatting.{all_made_anew, inserted_formatting, made_already, made_anew, name_for}
 use Rattle.html_tree_state.specs.Formatting.{reconstructed, to_make}
 use Rattle.html_tree_state.specs.Insertions.{here, inserted_at, is_template, said, with_element}
-use Rattle.page_tree_laws.proofs.CleanLists.{AreFormatting, AreLeft, AreLeftOr, already_formatting, behind_entry}
+use Rattle.page_tree_laws.proofs.CleanLists.{AreFormatting, AreLeft, AreLeftOr, after_entry, already_formatting}
 use Rattle.page_tree_laws.proofs.CleanLists.{pushed_formatting, to_make_formatting}
 use Rattle.page_tree_laws.proofs.CleanWords.{element_put}
 use Rattle.page_tree_laws.proofs.ForestTexts.{Follows, IsNew, still_held}
@@ -169,7 +169,7 @@ all_none : (entries : List Entry) (b : Building) → AreFormatting entries → I
 all_none [] b are present = none_itself b present
 all_none (entry ∷ earlier) b are present =
     none_on b (all_made_anew earlier b) (made_anew entry (all_made_anew earlier b))
-    (all_none earlier b (behind_entry entry earlier are) present)
+    (all_none earlier b (after_entry entry earlier are) present)
     (entry_none entry earlier (all_made_anew earlier b) are)
 
 pub reconstructed_none : (b : Building) → IsPresent b → OpensNone b (reconstructed b)

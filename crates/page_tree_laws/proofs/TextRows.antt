@@ -1,6 +1,5 @@
 -- Characters in the usual modes, and the text of a table, which is collected (WHATWG HTML, 13.2.6.4.9, 13.2.6.4.10).
-use Rattle.std.proofs.Common.{◌≡◌, ℕ, ◌+◌, Bool, true, false, if◌then◌else◌, List, [], ◌∷◌, ◌++◌, refl, sym}
-use Rattle.std.proofs.Common.{arith}
+use Rattle.std.proofs.Common.{◌≡◌, ◌+◌, if◌then◌else◌, [], ◌∷◌, ◌++◌, Bool, List, arith, false, refl, sym, true, ℕ}
 use Rattle.rules_table.specs.Actions.{act, act_all, forget_pending, foster, go_back, go_to, hold_mode, keep_pending}
 use Rattle.rules_table.specs.Actions.{reconstruct, refuse_frameset, say}
 use Rattle.rules_table.specs.AfterBody.{body_again}
@@ -14,7 +13,7 @@ use Rattle.rules_table.specs.InHeadNoscript.{noscript_closed}
 use Rattle.rules_table.specs.InTable.{in_table_text_other, in_table_text_row}
 use Rattle.rules_table.specs.Initial.{without_doctype}
 use Rattle.rules_table.specs.Rows.{is_white_space, then_again}
-use Rattle.rules_table.specs.State.{Mark, State, character, comment, doctype, end_of_file, finish, null, start}
+use Rattle.rules_table.specs.State.{TreeToken, State, character, comment, doctype, end_of_file, finish, null, start}
 use Rattle.rules_table.specs.Table.{row, text_row}
 use Rattle.tree_predicates.specs.declared.modes.InsertionMode.{InsertionMode}
 use Rattle.tree_predicates.specs.declared.modes.InsertionMode.TheVariants as modes
@@ -157,16 +156,16 @@ waits_more d s waits = record {
 }
 
 -- what a mark emits as text
-abbrev pub told_by : Mark → List ℕ
-told_by (character d) = d ∷ []
-told_by null = []
-told_by (comment cs) = []
-told_by (doctype d) = []
-told_by (start t) = []
-told_by (finish t) = []
-told_by end_of_file = []
+abbrev pub emitted_by : TreeToken → List ℕ
+emitted_by (character d) = d ∷ []
+emitted_by null = []
+emitted_by (comment cs) = []
+emitted_by (doctype d) = []
+emitted_by (start t) = []
+emitted_by (finish t) = []
+emitted_by end_of_file = []
 
-pub pending_row : (mark : Mark) (s : State) → IsPending s → Gives (told_by mark) s (row modes.InTableText mark s)
+pub pending_row : (mark : TreeToken) (s : State) → IsPending s → Gives (emitted_by mark) s (row modes.InTableText mark s)
 pending_row (character d) s waits = waits_more d s waits
 pending_row null s waits = stays s (in_text waits)
 pending_row (comment cs) s waits = pending_comes s waits

@@ -1,6 +1,6 @@
 -- Modes in which no text is dropped or kept back, and actions that lead from such a mode to such a mode.
-use Rattle.std.proofs.Common.{◌≡◌, ℕ, inl, inr, ◌&&◌, ◌||◌, not, Bool, true, false, if◌then◌else◌, List, [], ◌∷◌, map}
-use Rattle.std.proofs.Common.{Option, None, Some, codes, bytes_eq, option_map, refl, sym, ap, ◌∙◌, ◌+◌, arith}
+use Rattle.std.proofs.Common.{◌≡◌, ◌&&◌, ◌||◌, if◌then◌else◌, [], ◌∷◌, ◌∙◌, ◌+◌, Bool, List, None, Option, Some, ap}
+use Rattle.std.proofs.Common.{arith, bytes_eq, codes, false, inl, inr, map, not, option_map, refl, sym, true, ℕ}
 use Rattle.tree_forest.specs.Forest.{Forest, name_of}
 use Rattle.html_lexemes.specs.declared.names.Namespace.{Namespace}
 use Rattle.html_lexemes.specs.declared.names.Namespace.TheVariants.{Html, MathMl, Other, Svg}

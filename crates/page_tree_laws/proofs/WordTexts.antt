@@ -1,12 +1,12 @@
 -- Characters that are put into a forest are in its texts, each as often as it was said.
-use Rattle.std.proofs.Common.{◌≡◌, ℕ, ◌+◌, ◌≤◌, zero, suc, List, [], ◌∷◌, ◌++◌, Option, None}
-use Rattle.std.proofs.Common.{Some, if◌then◌else◌, ◌==◌, refl, sym, ◌∙◌, subst, arith}
+use Rattle.std.proofs.Common.{◌≡◌, ◌+◌, ◌≤◌, [], ◌∷◌, ◌++◌, if◌then◌else◌, ◌==◌, ◌∙◌, List, None, Option, Some, arith}
+use Rattle.std.proofs.Common.{refl, subst, suc, sym, zero, ℕ}
 use Rattle.tree_forest.specs.Changes.{changed, made, saying, saying_kind}
-use Rattle.tree_forest.specs.Forest.{Forest, Holds, Kind, comment, doctype, document, element}
-use Rattle.tree_forest.specs.Forest.{element_of, instruction, kind_at, name_of, nodes, text, text_of}
+use Rattle.tree_forest.specs.Forest.{Forest, Holds, Kind, comment, doctype, document, element, element_of, instruction}
+use Rattle.tree_forest.specs.Forest.{kind_at, name_of, nodes, text, text_of}
 use Rattle.tree_forest.specs.Places.{Place, neighbour, put_node, put_words}
-use Rattle.page_tree_laws.proofs.ForestTexts.{Follows, further, names_changed, names_made, no_fewer, one_larger, one_more}
-use Rattle.page_tree_laws.proofs.ForestTexts.{put_follows, size_changed, size_made, still_held, texts_made}
+use Rattle.page_tree_laws.proofs.ForestTexts.{Follows, further, names_changed, names_made, no_fewer, one_larger}
+use Rattle.page_tree_laws.proofs.ForestTexts.{one_more, put_follows, size_changed, size_made, still_held, texts_made}
 use Rattle.page_tree_laws.specs.KeptText.{characters_of, how_often, in_texts}
 
 -- a forest that comes from another: its texts say some characters more, no node goes, and each element keeps its name
@@ -36,16 +36,16 @@ kind_says : (c : ℕ) (cs said : List ℕ) (kind : Kind) → text_of kind ≡ So
 kind_says c cs said (text before_it) e = how_often_append c before_it cs
 kind_says c cs said document e = absurd (cc)
 kind_says c cs said (doctype name public system) e = absurd (cc)
-kind_says c cs said (comment told) e = absurd (cc)
-kind_says c cs said (instruction target told) e = absurd (cc)
+kind_says c cs said (comment emitted) e = absurd (cc)
+kind_says c cs said (instruction target emitted) e = absurd (cc)
 kind_says c cs said (element x) e = absurd (cc)
 
 named_kind : (cs : List ℕ) (kind : Kind) → (element_of (saying_kind cs kind)).name ≡ (element_of kind).name
 named_kind cs (text before_it) = refl
 named_kind cs document = refl
 named_kind cs (doctype name public system) = refl
-named_kind cs (comment told) = refl
-named_kind cs (instruction target told) = refl
+named_kind cs (comment emitted) = refl
+named_kind cs (instruction target emitted) = refl
 named_kind cs (element x) = refl
 
 in_front_of : (x y z w : ℕ) → w ≡ x + z → w + y ≡ (x + y) + z
@@ -82,10 +82,10 @@ new_text : (place : Place) (c : ℕ) (cs : List ℕ) (f : Forest) → neighbour 
     put_words place (c ∷ cs) f ≡ put_node place (nodes f) (made (text (c ∷ cs)) f)
 new_text place c cs f e = rw e
 
-new_text_behind : (place : Place) (c : ℕ) (cs : List ℕ) (n : ℕ) (f : Forest) → neighbour place f ≡ Some n →
+new_text_after : (place : Place) (c : ℕ) (cs : List ℕ) (n : ℕ) (f : Forest) → neighbour place f ≡ Some n →
     text_of (kind_at n f) ≡ None →
     put_words place (c ∷ cs) f ≡ put_node place (nodes f) (made (text (c ∷ cs)) f)
-new_text_behind place c cs n f e k = rw (e, k)
+new_text_after place c cs n f e k = rw (e, k)
 
 text_more : (place : Place) (c : ℕ) (cs said : List ℕ) (n : ℕ) (f : Forest) → neighbour place f ≡ Some n →
     text_of (kind_at n f) ≡ Some said → put_words place (c ∷ cs) f ≡ changed n (saying (c ∷ cs)) f
@@ -94,7 +94,7 @@ text_more place c cs said n f e k = rw (e, k)
 by_text : (place : Place) (c : ℕ) (cs : List ℕ) (n : ℕ) (f : Forest) (said : Option (List ℕ)) →
     neighbour place f ≡ Some n → text_of (kind_at n f) ≡ said → Says (c ∷ cs) f (put_words place (c ∷ cs) f)
 by_text place c cs n f None e k =
-    subst (Says (c ∷ cs) f) (sym (new_text_behind place c cs n f e k)) (put_says place (c ∷ cs) f)
+    subst (Says (c ∷ cs) f) (sym (new_text_after place c cs n f e k)) (put_says place (c ∷ cs) f)
 by_text place c cs n f (Some said) e k =
     subst (Says (c ∷ cs) f) (sym (text_more place c cs said n f e k)) (grown_says (c ∷ cs) said n f k)
 

@@ -2,8 +2,7 @@
 -- space, which some modes drop, and U+FFFD, which stands for NUL in foreign content (WHATWG HTML, 13.2.6). A template's
 -- columns and a page of frames drop other text too (13.2.6.4.13, 13.2.6.4.19), so no start tag of theirs is emitted
 -- here.
-use Rattle.std.specs.Prelude.{◌≡◌, ℕ, ◌+◌, ◌==◌, Bool, true, false, List, [], ◌∷◌, None, codes, fold}
-use Rattle.std.specs.Prelude.{if◌then◌else◌}
+use Rattle.std.specs.Prelude.{◌≡◌, ◌+◌, ◌==◌, [], ◌∷◌, if◌then◌else◌, Bool, List, None, codes, false, fold, true, ℕ}
 use Rattle.tree_forest.specs.Forest.{Forest, Kind, comment, doctype, document, element, instruction, text}
 use Rattle.token_grammar.specs.Items.{Item}
 use Rattle.token_grammar.specs.Items as items
@@ -34,18 +33,18 @@ in_texts c [] = 0
 in_texts c (node ∷ f) = how_often c (characters_of node.kind) + in_texts c f
 
 -- and in what is emitted as text
-abbrev pub text_told : Item → List ℕ
-text_told (items.characters cs) = cs
-text_told items.null_character = []
-text_told (items.tag t) = []
-text_told (items.comment cs) = []
-text_told (items.doctype d) = []
-text_told items.error = []
-text_told items.end_of_file = []
+abbrev pub text_emitted : Item → List ℕ
+text_emitted (items.characters cs) = cs
+text_emitted items.null_character = []
+text_emitted (items.tag t) = []
+text_emitted (items.comment cs) = []
+text_emitted (items.doctype d) = []
+text_emitted items.error = []
+text_emitted items.end_of_file = []
 
-abbrev pub in_told : ℕ → List Item → ℕ
-in_told c [] = 0
-in_told c (item ∷ more) = how_often c (text_told item) + in_told c more
+abbrev pub in_emitted : ℕ → List Item → ℕ
+in_emitted c [] = 0
+in_emitted c (item ∷ more) = how_often c (text_emitted item) + in_emitted c more
 
 -- a character that no mode drops
 abbrev pub is_kept : ℕ → Bool
@@ -60,9 +59,9 @@ abbrev pub is_plain : Item → Bool
 is_plain (items.tag t) = is_plain_name t.kind t.name
 is_plain _ = true
 
-abbrev pub TellsPlainTags : List Item → Type 0
-TellsPlainTags [] = Unit {0}
-TellsPlainTags (item ∷ more) = (is_plain item ≡ true) × TellsPlainTags more
+abbrev pub EmitsPlainTags : List Item → Type 0
+EmitsPlainTags [] = Unit {0}
+EmitsPlainTags (item ∷ more) = (is_plain item ≡ true) × EmitsPlainTags more
 
 -- before the first item of a page
 pub record IsAtBeginning (s : State) : Type 0 where
@@ -80,6 +79,6 @@ pub record IsAtBeginning (s : State) : Type 0 where
   pub fostering : s.tree.fostering ≡ false
 
 abbrev pub KeepsText : State → List Item → Type 0
-KeepsText s told = (c : ℕ) → is_kept c ≡ true →
-    in_texts c (fold step s told).tree.forest + how_often c (fold step s told).pending
-    ≡ in_texts c s.tree.forest + in_told c told
+KeepsText s emitted = (c : ℕ) → is_kept c ≡ true →
+    in_texts c (fold step s emitted).tree.forest + how_often c (fold step s emitted).pending
+    ≡ in_texts c s.tree.forest + in_emitted c emitted

@@ -5,7 +5,7 @@ use Rattle.token_grammar.specs.Items.{Item, tag}
 use Rattle.token_grammar.specs.Meaning.{Meaning}
 use Rattle.token_grammar.specs.Reading.{Reading, ends, goes, tags}
 use Rattle.token_grammar.specs.declared.modes.Mode.{Mode}
-use Rattle.page_tree_laws.specs.KeptText.{IsAtBeginning, TellsPlainTags, in_texts, in_told, is_kept}
+use Rattle.page_tree_laws.specs.KeptText.{IsAtBeginning, EmitsPlainTags, in_texts, in_emitted, is_kept}
 use Rattle.rules_table.specs.Settling.{meaning}
 use Rattle.rules_table.specs.State.{State}
 
@@ -19,6 +19,6 @@ items_of (tags _ _ _ t _ _ _ further) = tag t ∷ items_of further
 abbrev pub KeepsTextOfPage : Type 0 → Type 0
 KeepsTextOfPage H = (table : References) (handle : ℕ → H) (mode : Mode) (s : State) (cs : List ℕ) (final : State)
     (reading : Reading table (meaning handle) mode s cs final) →
-    IsAtBeginning s → TellsPlainTags (items_of reading) →
+    IsAtBeginning s → EmitsPlainTags (items_of reading) →
     (c : ℕ) → is_kept c ≡ true →
-    in_texts c final.tree.forest ≡ in_texts c s.tree.forest + in_told c (items_of reading)
+    in_texts c final.tree.forest ≡ in_texts c s.tree.forest + in_emitted c (items_of reading)

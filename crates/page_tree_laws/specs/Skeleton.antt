@@ -57,13 +57,13 @@ abbrev pub is_unframed : Item → Bool
 is_unframed (items.tag t) = is_unframed_name t.kind t.name
 is_unframed _ = true
 
-abbrev pub TellsNoFrames : List Item → Type 0
-TellsNoFrames [] = Unit {0}
-TellsNoFrames (item ∷ more) = (is_unframed item ≡ true) × TellsNoFrames more
+abbrev pub EmitsNoFrames : List Item → Type 0
+EmitsNoFrames [] = Unit {0}
+EmitsNoFrames (item ∷ more) = (is_unframed item ≡ true) × EmitsNoFrames more
 
 abbrev pub HasSkeletonOfPage : Type 0 → Type 0
 HasSkeletonOfPage H = (table : References) (handle : ℕ → H) (mode : Mode) (s : State) (cs : List ℕ) (final : State)
     (reading : Reading table (meaning handle) mode s cs final) →
     IsAtBeginning s → child_elements 0 s.tree.forest ≡ [] →
-    (is_framed : Bool) → (is_framed ≡ false → TellsNoFrames (items_of reading)) →
+    (is_framed : Bool) → (is_framed ≡ false → EmitsNoFrames (items_of reading)) →
     IsSkeleton is_framed final.tree.forest

@@ -18,7 +18,7 @@ fn bodies_of_rows()
     ensures no_frameset { is_element_of (html_elements (bodies false)) (html (codes "frameset")) ≡ false }
     ensures frameset { is_element_of (html_elements (bodies true)) (html (codes "frameset")) ≡ true }
     ensures no_frame { is_element_of (html_elements (bodies true)) (html (codes "frame")) ≡ false }
-    ensures told { is_unframed_name StartTag (codes "frameset") ≡ false }
-    ensures told_end { is_unframed_name EndTag (codes "frameset") ≡ true }
-    ensures told_other { is_unframed_name StartTag (codes "frame") ≡ true }
+    ensures emitted { is_unframed_name StartTag (codes "frameset") ≡ false }
+    ensures emitted_end { is_unframed_name EndTag (codes "frameset") ≡ true }
+    ensures emitted_other { is_unframed_name StartTag (codes "frame") ≡ true }
 {}

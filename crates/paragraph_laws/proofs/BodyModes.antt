@@ -1,6 +1,6 @@
 -- In the body, the tags of a paragraph and its text lead to no other mode, and ask nothing of the tokenizer.
-use Rattle.std.proofs.Common.{◌≡◌, ℕ, ◌==◌, ◌&&◌, Bool, true, false, List, [], ◌∷◌, codes, fold, if◌then◌else◌}
-use Rattle.std.proofs.Common.{refl, sym, ap, subst}
+use Rattle.std.proofs.Common.{◌≡◌, ◌==◌, ◌&&◌, [], ◌∷◌, if◌then◌else◌, Bool, List, ap, codes, false, fold, refl, subst}
+use Rattle.std.proofs.Common.{sym, true, ℕ}
 use Rattle.html_lexemes.specs.declared.token.Tag.{Tag}
 use Rattle.tree_names.specs.Wanted.{one}
 use Rattle.tree_names.specs.Groups.{tag_group}
@@ -13,9 +13,9 @@ use Rattle.rules_table.specs.InBody.{in_body_start, in_body_text}
 use Rattle.rules_table.specs.InBodyEnds.{in_body_end}
 use Rattle.rules_table.specs.Rank.{rank}
 use Rattle.rules_table.specs.Rows.{Row, after, for_character, is_white_space}
-use Rattle.rules_table.specs.Settling.{Settled, answer_of, given_by, meaning, past_tag, settle, taken}
-use Rattle.rules_table.specs.Settling.{taken_character, taken_tag}
-use Rattle.rules_table.specs.State.{Mark, State, character, finish, nothing, start}
+use Rattle.rules_table.specs.Settling.{Settled, answer_of, given_by, meaning, past_tag, settle, taken, taken_character}
+use Rattle.rules_table.specs.Settling.{taken_tag}
+use Rattle.rules_table.specs.State.{TreeToken, State, character, finish, nothing, start}
 use Rattle.tree_predicates.specs.declared.modes.InsertionMode.TheVariants.{InBody}
 use Rattle.paragraph_laws.proofs.PagesRead.{Hears, Leads, closing, opening}
 
@@ -34,7 +34,7 @@ body s = record s { mode = InBody; skip_lf = false }
 is_body : (s : State) → s.mode ≡ InBody → past_tag s ≡ body s
 is_body s e = ap (λ m. record s { mode = m; skip_lf = false }) e
 
-module _ (s : State) (mark : Mark) where
+module _ (s : State) (mark : TreeToken) where
   abbrev StaysBy : Row → Type 0
   StaysBy row = Stays (given_by row (body s) (settle (rank mark (body s)) mark))
 
@@ -135,6 +135,6 @@ module _ {H : Type 0} (handle : ℕ → H) where
     joins = λ s c cs. refl;
     skips = λ s. refl;
     opens = λ s e. stays_leads opening s (start_stays s e);
-    tells = λ s cs e. text_stays s cs e;
+    emits = λ s cs e. text_stays s cs e;
     closes = λ s e. stays_leads closing s (end_stays s e);
   }

@@ -48,9 +48,9 @@ pub first_start : taken_tag opening at_first ≡ taken_tag opening (in_body true
 unfolding act tag_group
 first_start = refl
 
-pub nothing_told : (step at_first end_of_file).tree.forest ≡ body_alone
+pub nothing_emitted : (step at_first end_of_file).tree.forest ≡ body_alone
 unfolding act
-nothing_told = refl
+nothing_emitted = refl
 
 -- the end of the page changes nothing below a body
 ends_standing : (ok : Bool) (content : Content) →

@@ -1,6 +1,6 @@
 -- A reference of the basic table is read as its character, whatever follows it.
-use Rattle.std.proofs.Common.{◌≡◌, ℕ, zero, suc, ◌<◌, ◌==◌, true, List, [], ◌∷◌, ◌++◌, codes, Contains, None, Some}
-use Rattle.std.proofs.Common.{refl, sym, ap, subst₂, ◌∙◌, append_assoc, append-nil, arith, slice_index_or}
+use Rattle.std.proofs.Common.{◌≡◌, ◌<◌, ◌==◌, [], ◌∷◌, ◌++◌, ◌∙◌, Contains, List, None, Some, ap, append-nil}
+use Rattle.std.proofs.Common.{append_assoc, arith, codes, refl, slice_index_or, subst₂, suc, sym, true, zero, ℕ}
 use Rattle.std.specs.FinMap as finite
 use Rattle.std.specs.List.{list_any}
 use Rattle.std.specs.Option.{option_or}
@@ -40,14 +40,14 @@ by_value front rest value =
 
 module _ (table : References) (knows : KnowsEscapes table) where
   -- no name goes on after a semicolon
-  none_behind : (front : List ℕ) (c : ℕ) (more cs : List ℕ) → named_from table (front ++ 59 ∷ c ∷ more) cs ≡ None
-  none_behind front c more [] =
+  none_after : (front : List ℕ) (c : ℕ) (more cs : List ℕ) → named_from table (front ++ 59 ∷ c ∷ more) cs ≡ None
+  none_after front c more [] =
       ap (option_map (by_value (front ++ 59 ∷ c ∷ more) []))
       (knows.ends front c more)
-  none_behind front c more (d ∷ cs) =
+  none_after front c more (d ∷ cs) =
       let later : named_from table ((front ++ 59 ∷ c ∷ more) ++ d ∷ []) cs ≡ None =
       ap (λ f. named_from table f cs) (append_assoc front (59 ∷ c ∷ more) (d ∷ []))
-      ∙ none_behind front c (more ++ d ∷ []) cs in
+      ∙ none_after front c (more ++ d ∷ []) cs in
       ap (λ o. option_or o (named_here table (front ++ 59 ∷ c ∷ more) (d ∷ cs))) later
       ∙ ap (option_map (by_value (front ++ 59 ∷ c ∷ more) (d ∷ cs)))
       (knows.ends front c more)
@@ -66,7 +66,7 @@ module _ (table : References) (knows : KnowsEscapes table) where
   closed_name front [] c h k = closed_here front [] c h k
   closed_name front (d ∷ rest) c h k =
       let later : named_from table ((front ++ 59 ∷ []) ++ d ∷ []) rest ≡ None =
-      ap (λ f. named_from table f rest) (append_assoc front (59 ∷ []) (d ∷ [])) ∙ none_behind front d [] rest in
+      ap (λ f. named_from table f rest) (append_assoc front (59 ∷ []) (d ∷ [])) ∙ none_after front d [] rest in
       ap (λ o. option_or o (named_here table (front ++ 59 ∷ []) (d ∷ rest))) later ∙ closed_here front (d ∷ rest) c h k
 
   -- the longest name wins, whatever shorter ones the table has

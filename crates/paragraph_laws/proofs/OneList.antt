@@ -1,6 +1,6 @@
 -- A page has one reading, and who listens to it hears its paragraphs: so it is no two lists of paragraphs.
-use Rattle.std.proofs.Common.{◌≡◌, ℕ, false, List, [], ◌∷◌, ◌++◌, None, codes, fold}
-use Rattle.std.proofs.Common.{refl, sym, ap, ◌∙◌, append_assoc, append-nil}
+use Rattle.std.proofs.Common.{◌≡◌, [], ◌∷◌, ◌++◌, ◌∙◌, List, None, ap, append-nil, append_assoc, codes, false, fold}
+use Rattle.std.proofs.Common.{refl, sym, ℕ}
 use Rattle.document_laws.specs.Escaped.{KnowsEscapes}
 use Rattle.token_grammar.proofs.Readings.{one}
 use Rattle.token_grammar.specs.Items.{Item, characters, comment, doctype, end_of_file, error, null_character, tag}
@@ -22,33 +22,33 @@ data Heard : Type 0 where
 abbrev ended : Heard → List (List ℕ)
 ended (heard texts cs) = texts
 
-abbrev behind_tag : TagKind → Heard → Heard
-behind_tag StartTag (heard texts cs) = heard texts []
-behind_tag EndTag (heard texts cs) = heard (texts ++ cs ∷ []) []
+abbrev after_tag : TagKind → Heard → Heard
+after_tag StartTag (heard texts cs) = heard texts []
+after_tag EndTag (heard texts cs) = heard (texts ++ cs ∷ []) []
 
-abbrev behind_text : List ℕ → Heard → Heard
-behind_text more (heard texts cs) = heard texts (cs ++ more)
+abbrev after_text : List ℕ → Heard → Heard
+after_text more (heard texts cs) = heard texts (cs ++ more)
 
-abbrev behind : Heard → Item → Heard
-behind h (characters cs) = behind_text cs h
-behind h (tag t) = behind_tag t.kind h
-behind h null_character = h
-behind h (comment cs) = h
-behind h (doctype d) = h
-behind h error = h
-behind h end_of_file = h
+abbrev trailing : Heard → Item → Heard
+trailing h (characters cs) = after_text cs h
+trailing h (tag t) = after_tag t.kind h
+trailing h null_character = h
+trailing h (comment cs) = h
+trailing h (doctype d) = h
+trailing h error = h
+trailing h end_of_file = h
 
 abbrev listener : Meaning Heard ℕ
-listener = record { step = behind; reply = λ h item. Continue; foreign = λ h. false }
+listener = record { step = trailing; reply = λ h item. Continue; foreign = λ h. false }
 
 abbrev Always : Heard → Type 0
 Always h = Unit {0}
 
 texts_join : (h : Heard) (c : ℕ) (cs : List ℕ) →
-    behind (behind h (characters (c ∷ []))) (characters cs) ≡ behind h (characters (c ∷ cs))
+    trailing (trailing h (characters (c ∷ []))) (characters cs) ≡ trailing h (characters (c ∷ cs))
 texts_join (heard texts before) c cs = ap (heard texts) (append_assoc before (c ∷ []) cs)
 
-no_text : (h : Heard) → behind h (characters []) ≡ h
+no_text : (h : Heard) → trailing h (characters []) ≡ h
 no_text (heard texts before) = ap (heard texts) (append-nil before)
 
 listens : Hears listener Always
@@ -56,18 +56,18 @@ listens = record {
   joins = texts_join;
   skips = no_text;
   opens = λ h inside. (refl, tt);
-  tells = λ h cs inside. tt;
+  emits = λ h cs inside. tt;
   closes = λ h inside. (refl, tt);
 }
 
 paragraph_heard : (texts : List (List ℕ)) (cs : List ℕ) (items : List Item) →
-    fold behind (heard texts []) (start_of (codes "p") [] ∷ tokens_and (text_content cs) (end_of (codes "p") ∷ items))
-    ≡ fold behind (heard (texts ++ cs ∷ []) []) items
+    fold trailing (heard texts []) (start_of (codes "p") [] ∷ tokens_and (text_content cs) (end_of (codes "p") ∷ items))
+    ≡ fold trailing (heard (texts ++ cs ∷ []) []) items
 paragraph_heard texts [] items = refl
 paragraph_heard texts (c ∷ cs) items = refl
 
 all_heard : (texts more : List (List ℕ)) →
-    fold behind (heard texts []) (tokens (paragraphs more)) ≡ heard (texts ++ more) []
+    fold trailing (heard texts []) (tokens (paragraphs more)) ≡ heard (texts ++ more) []
 all_heard texts [] = ap (λ l. heard l []) (sym (append-nil texts))
 all_heard texts (cs ∷ more) =
     paragraph_heard texts cs (tokens (paragraphs more))

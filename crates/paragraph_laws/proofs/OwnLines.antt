@@ -1,6 +1,6 @@
 -- The lines of paragraphs as a function, which the relation says.
-use Rattle.std.proofs.Common.{◌≡◌, ℕ, suc, Bool, true, false, not, ◌||◌, List, [], ◌∷◌, ◌++◌, Option, None, Some}
-use Rattle.std.proofs.Common.{if◌then◌else◌, refl, sym, ap, subst, ◌∙◌, append-nil, arith}
+use Rattle.std.proofs.Common.{◌≡◌, ◌||◌, [], ◌∷◌, ◌++◌, if◌then◌else◌, ◌∙◌, Bool, List, None, Option, Some, ap}
+use Rattle.std.proofs.Common.{append-nil, arith, false, not, refl, subst, suc, sym, true, ℕ}
 use Rattle.std.proofs.lemmas.List.Elements.{All-cons, All-get_or, All-nil}
 use Rattle.std.proofs.lemmas.Option.{none-some, same_Some}
 use Rattle.std.specs.Option.{option_and_then}
@@ -14,7 +14,7 @@ use Rattle.text_pieces.specs.Sources.{Source, names_of, sourced}
 use Rattle.text_pieces.specs.declared.white_space.WhiteSpace.TheVariants.{Normal}
 use Rattle.text_wrapping.specs.Blocks.{added}
 use Rattle.text_wrapping.specs.NormalBlocks.{normal_block}
-use Rattle.paragraph_laws.specs.ParagraphLines.{AreLinesBehind, AreParagraphLines, IsWiderText, Plain, PlainItems}
+use Rattle.paragraph_laws.specs.ParagraphLines.{AreLinesAfter, AreParagraphLines, IsWiderText, Plain, PlainItems}
 use Rattle.paragraph_laws.specs.ParagraphLines.{block_start}
 
 -- ---- what is known of normal text
@@ -102,10 +102,10 @@ module _ (k : KnowsNormalText) (width : ℕ) where
 
 -- ---- of all
 
-abbrev pub lines_behind : ℕ → List PlainItems → List (List ℕ) → Option (List PlainItems)
-lines_behind width before [] = Some before
-lines_behind width before (cs ∷ texts) = option_and_then
-    (λ own. lines_behind width (before ++ (block_start before ++ own)) texts) (own_lines width cs)
+abbrev pub lines_after : ℕ → List PlainItems → List (List ℕ) → Option (List PlainItems)
+lines_after width before [] = Some before
+lines_after width before (cs ∷ texts) = option_and_then
+    (λ own. lines_after width (before ++ (block_start before ++ own)) texts) (own_lines width cs)
 
 abbrev IsLaid : ℕ → List ℕ → Type 0
 IsLaid width cs = (own : List PlainItems) × AreParagraphLines width cs own
@@ -117,37 +117,37 @@ Any-there : {X : Type 0} (P : X → Type 0) (x : X) (xs : List X) → Any P xs �
 Any-there P x xs a = (suc a.0, a.1, omega (arith, a.2), a.3, a.4)
 
 module _ (k : KnowsNormalText) (width : ℕ) where
-  first_told : (cs : List ℕ) (texts : List (List ℕ)) (before lines : List PlainItems)
+  first_emitted : (cs : List ℕ) (texts : List (List ℕ)) (before lines : List PlainItems)
       (own : Option (List PlainItems)) → own_lines width cs ≡ own →
-      option_and_then (λ own. lines_behind width (before ++ (block_start before ++ own)) texts) own ≡ Some lines →
-      ((more : List PlainItems) → lines_behind width more texts ≡ Some lines →
-      AreLinesBehind width more texts lines) →
-      AreLinesBehind width before (cs ∷ texts) lines
-  first_told cs texts before lines None e h rest = absurd (none-some lines h)
-  first_told cs texts before lines (Some own) e h rest = (
+      option_and_then (λ own. lines_after width (before ++ (block_start before ++ own)) texts) own ≡ Some lines →
+      ((more : List PlainItems) → lines_after width more texts ≡ Some lines →
+      AreLinesAfter width more texts lines) →
+      AreLinesAfter width before (cs ∷ texts) lines
+  first_emitted cs texts before lines None e h rest = absurd (none-some lines h)
+  first_emitted cs texts before lines (Some own) e h rest = (
     own,
     own_are k width cs (has_wide_text width (source_of cs)) own refl e,
     rest (before ++ (block_start before ++ own)) h,
   )
 
   pub are_lines : (texts : List (List ℕ)) (before lines : List PlainItems) →
-      lines_behind width before texts ≡ Some lines → AreLinesBehind width before texts lines
+      lines_after width before texts ≡ Some lines → AreLinesAfter width before texts lines
   are_lines [] before lines h = sym (same_Some before lines h)
-  are_lines (cs ∷ texts) before lines h = first_told cs texts before lines (own_lines width cs) refl h
+  are_lines (cs ∷ texts) before lines h = first_emitted cs texts before lines (own_lines width cs) refl h
       (λ more e. are_lines texts more lines e)
 
   pub lines_are : (texts : List (List ℕ)) (before lines : List PlainItems) →
-      AreLinesBehind width before texts lines → lines_behind width before texts ≡ Some lines
+      AreLinesAfter width before texts lines → lines_after width before texts ≡ Some lines
   lines_are [] before lines a = ap Some (sym a)
   lines_are (cs ∷ texts) before lines a =
-      ap (option_and_then (λ own. lines_behind width (before ++ (block_start before ++ own)) texts))
+      ap (option_and_then (λ own. lines_after width (before ++ (block_start before ++ own)) texts))
       (are_own k width cs (has_wide_text width (source_of cs)) a.0 refl a.1)
       ∙ lines_are texts (before ++ (block_start before ++ a.0)) lines a.2
 
   first_wider : (cs : List ℕ) (texts : List (List ℕ)) (before : List PlainItems)
       (own : Option (List PlainItems)) → own_lines width cs ≡ own →
-      option_and_then (λ own. lines_behind width (before ++ (block_start before ++ own)) texts) own ≡ None →
-      ((more : List PlainItems) → lines_behind width more texts ≡ None → Any (IsWiderText width) texts) →
+      option_and_then (λ own. lines_after width (before ++ (block_start before ++ own)) texts) own ≡ None →
+      ((more : List PlainItems) → lines_after width more texts ≡ None → Any (IsWiderText width) texts) →
       Any (IsWiderText width) (cs ∷ texts)
   first_wider cs texts before None e h rest = Any-here (IsWiderText width) cs texts
       (none_is_wider k width cs (has_wide_text width (source_of cs)) refl e)
@@ -155,12 +155,12 @@ module _ (k : KnowsNormalText) (width : ℕ) where
       (rest (before ++ (block_start before ++ own)) h)
 
   pub some_wider : (texts : List (List ℕ)) (before : List PlainItems) →
-      lines_behind width before texts ≡ None → Any (IsWiderText width) texts
+      lines_after width before texts ≡ None → Any (IsWiderText width) texts
   some_wider [] before h = absurd (none-some before (sym h))
   some_wider (cs ∷ texts) before h = first_wider cs texts before (own_lines width cs) refl h
       (λ more e. some_wider texts more e)
 
-  each_laid : (texts : List (List ℕ)) (before lines : List PlainItems) → AreLinesBehind width before texts lines →
+  each_laid : (texts : List (List ℕ)) (before lines : List PlainItems) → AreLinesAfter width before texts lines →
       All (IsLaid width) texts
   each_laid [] before lines a = All-nil (IsLaid width)
   each_laid (cs ∷ texts) before lines a = All-cons (IsLaid width) cs texts (a.0, a.1)
@@ -172,11 +172,11 @@ module _ (k : KnowsNormalText) (width : ℕ) where
       not_wider k width some.1 here.0 here.1 some.4
 
   wider_by : (texts : List (List ℕ)) (before : List PlainItems) (lines : Option (List PlainItems)) →
-      lines_behind width before texts ≡ lines → Any (IsWiderText width) texts → lines ≡ None
+      lines_after width before texts ≡ lines → Any (IsWiderText width) texts → lines ≡ None
   wider_by texts before None e some = refl
   wider_by texts before (Some lines) e some =
       absurd (none_wider texts (each_laid texts before lines (are_lines texts before lines e)) some)
 
   pub wider_none : (texts : List (List ℕ)) (before : List PlainItems) → Any (IsWiderText width) texts →
-      lines_behind width before texts ≡ None
-  wider_none texts before some = wider_by texts before (lines_behind width before texts) refl some
+      lines_after width before texts ≡ None
+  wider_none texts before some = wider_by texts before (lines_after width before texts) refl some

@@ -4,7 +4,7 @@ use Rattle.document_laws.specs.Escaped.{KnowsEscapes}
 use Rattle.token_grammar.specs.Items.{Item, characters, end_of_file, tag}
 use Rattle.token_grammar.specs.Lexemes.{lexeme}
 use Rattle.token_grammar.specs.Meaning.{Meaning}
-use Rattle.token_grammar.specs.Modes.{mode_behind}
+use Rattle.token_grammar.specs.Modes.{next_mode}
 use Rattle.token_grammar.specs.Reading.{Reading, ends, tags}
 use Rattle.lex_base.specs.References.{References}
 use Rattle.html_lexemes.specs.declared.token.Tag.{Tag}
@@ -42,7 +42,7 @@ pub record Hears {A H : Type 0} (means : Meaning A H) (Inside : A → Type 0) : 
   pub joins : Joins means
   pub skips : Skips means
   pub opens : (s : A) → Inside s → Leads means Inside opening s
-  pub tells : (s : A) (cs : List ℕ) → Inside s → Inside (means.step s (characters cs))
+  pub emits : (s : A) (cs : List ℕ) → Inside s → Inside (means.step s (characters cs))
   pub closes : (s : A) → Inside s → Leads means Inside closing s
 
 -- the state that items and then the end lead to
@@ -50,10 +50,10 @@ abbrev pub ended_by : {A H : Type 0} → Meaning A H → A → List Item → A
 ended_by means s items = means.step (fold means.step s items) end_of_file
 
 -- a text that is emitted is one item, or none
-text_told : {A H : Type 0} (means : Meaning A H) → Skips means → (s : A) (text : List ℕ) (more : List Item) →
+text_emitted : {A H : Type 0} (means : Meaning A H) → Skips means → (s : A) (text : List ℕ) (more : List Item) →
     fold means.step s (tokens_and (text_content text) more) ≡ fold means.step (means.step s (characters text)) more
-text_told means skips s [] more = ap (λ z. fold means.step z more) (sym (skips s))
-text_told means skips s (c ∷ cs) more = refl
+text_emitted means skips s [] more = ap (λ z. fold means.step z more) (sym (skips s))
+text_emitted means skips s (c ∷ cs) more = refl
 
 module _ {A H : Type 0} (table : References) (knows : KnowsEscapes table) (means : Meaning A H) (Inside : A → Type 0)
     (hears : Hears means Inside) where
@@ -63,13 +63,13 @@ module _ {A H : Type 0} (table : References) (knows : KnowsEscapes table) (means
   start_read : (last : Option (List ℕ)) (s : A) (rest : List ℕ) (final : A) → Leads means Inside opening s →
       Reads (Some (codes "p")) (means.step s (tag opening)) rest final → Reads last s (start_tag ++ rest) final
   start_read last s rest final leads r = tags (ordinary last) s (start_tag ++ rest) opening rest final refl
-      (subst (λ answer. Reading table means (mode_behind (ordinary last) opening answer) (means.step s (tag opening))
+      (subst (λ answer. Reading table means (next_mode (ordinary last) opening answer) (means.step s (tag opening))
       rest final) (sym leads.0) r)
 
   end_read : (last : Option (List ℕ)) (s : A) (rest : List ℕ) (final : A) → Leads means Inside closing s →
       Reads last (means.step s (tag closing)) rest final → Reads last s (end_tag ++ rest) final
   end_read last s rest final leads r = tags (ordinary last) s (end_tag ++ rest) closing rest final refl
-      (subst (λ answer. Reading table means (mode_behind (ordinary last) closing answer) (means.step s (tag closing))
+      (subst (λ answer. Reading table means (next_mode (ordinary last) closing answer) (means.step s (tag closing))
       rest final) (sym leads.0) r)
 
   -- from any state inside, whatever the last start tag was
@@ -82,17 +82,17 @@ module _ {A H : Type 0} (table : References) (knows : KnowsEscapes table) (means
       (ended_by means s (tokens (paragraphs (text ∷ more))))
   paragraph_read last s source text rest more leads is further =
       let opened : A = means.step s (tag opening) in
-      let told : A = means.step opened (characters text) in
+      let emitted : A = means.step opened (characters text) in
       let later : List Item = tokens (paragraphs more) in
-      let closes = hears.closes told (hears.tells opened text leads.1) in
-      let final : A = ended_by means (means.step told (tag closing)) later in
+      let closes = hears.closes emitted (hears.emits opened text leads.1) in
+      let final : A = ended_by means (means.step emitted (tag closing)) later in
       subst (Reads last s (start_tag ++ (source ++ (end_tag ++ rest))))
-      (sym (ap (λ z. means.step z end_of_file) (text_told means hears.skips opened text (end_of (codes "p") ∷ later))))
+      (sym (ap (λ z. means.step z end_of_file) (text_emitted means hears.skips opened text (end_of (codes "p") ∷ later))))
       (start_read last s (source ++ (end_tag ++ rest)) final leads
       (text_read means hears.joins hears.skips table knows (Some (codes "p")) (end_tag ++ rest) final opened source
       text is
-      (end_read (Some (codes "p")) told rest final closes
-      (further (Some (codes "p")) (means.step told (tag closing)) closes.1))))
+      (end_read (Some (codes "p")) emitted rest final closes
+      (further (Some (codes "p")) (means.step emitted (tag closing)) closes.1))))
 
   pub nothing_read : (last : Option (List ℕ)) (s : A) (page : List ℕ) → page ≡ [] →
       Reads last s page (ended_by means s [])

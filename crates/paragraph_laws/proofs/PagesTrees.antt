@@ -1,6 +1,6 @@
 -- A page of paragraphs has its tree.
-use Rattle.std.proofs.Common.{◌≡◌, ℕ, ◌<◌, true, false, List, [], ◌∷◌, None, codes, fold}
-use Rattle.std.proofs.Common.{refl, sym, ap, subst, ◌∙◌, arith}
+use Rattle.std.proofs.Common.{◌≡◌, ◌<◌, [], ◌∷◌, ◌∙◌, List, None, ap, arith, codes, false, fold, refl, subst, sym, true}
+use Rattle.std.proofs.Common.{ℕ}
 use Rattle.document_laws.specs.Escaped.{KnowsEscapes}
 use Rattle.tree_forest.specs.Forest.{Forest, nodes, page_alone}
 use Rattle.tree_forest.specs.declared.sink.QuirksMode.{QuirksMode}
@@ -18,7 +18,7 @@ use Rattle.document_laws.specs.Parts.{BlocksRebuild}
 use Rattle.document_laws.specs.Planted.{planted, standing}
 use Rattle.rules_table.specs.Settling.{meaning, step}
 use Rattle.paragraph_laws.proofs.BodyModes.{InTheBody, Stays, body_hears, start_stays, stays_leads}
-use Rattle.paragraph_laws.proofs.FirstTags.{at_first, end_changes_nothing, first_start, in_body, nothing_told}
+use Rattle.paragraph_laws.proofs.FirstTags.{at_first, end_changes_nothing, first_start, in_body, nothing_emitted}
 use Rattle.paragraph_laws.proofs.PagesRead.{ended_by, nothing_read, opening, paragraph_read, paragraphs_read}
 use Rattle.paragraph_laws.proofs.TextsRead.{ordinary}
 use Rattle.paragraph_laws.specs.ParagraphPage.{IsParagraphPage}
@@ -55,10 +55,10 @@ module _ (rebuild : BlocksRebuild) (at_once : StandsAtOnce) where
 
   page_grown : (texts : List (List ℕ)) →
       (step (fold step at_first (tokens (paragraphs texts))) end_of_file).tree.forest ≡ paragraph_tree texts
-  page_grown [] = nothing_told
+  page_grown [] = nothing_emitted
   page_grown (cs ∷ texts) =
-      let behind = kinds.tokens_and (text_content cs) (kinds.end_of (codes "p") ∷ tokens (paragraphs texts)) in
-      ap (λ z. (step (fold step z.state behind) end_of_file).tree.forest) first_start
+      let trailing = kinds.tokens_and (text_content cs) (kinds.end_of (codes "p") ∷ tokens (paragraphs texts)) in
+      ap (λ z. (step (fold step z.state trailing) end_of_file).tree.forest) first_start
       ∙ body_grown (cs ∷ texts)
 
   module _ {H : Type 0} (handle : ℕ → H) (table : References) (knows : KnowsEscapes table) where

@@ -1,6 +1,6 @@
 -- A page of paragraphs is rendered as their lines, and a width is too narrow for it where it is for one.
-use Rattle.std.proofs.Common.{◌≡◌, ◌≢◌, ℕ, Bool, true, false, List, [], Option, None, Some}
-use Rattle.std.proofs.Common.{if◌then◌else◌, refl, sym, ap, ◌∙◌}
+use Rattle.std.proofs.Common.{◌≡◌, ◌≢◌, [], if◌then◌else◌, ◌∙◌, Bool, List, None, Option, Some, ap, false, refl, sym}
+use Rattle.std.proofs.Common.{true, ℕ}
 use Rattle.std.specs.Option.{option_and_then, option_map}
 use Rattle.block_layout.specs.Laid.{Laid}
 use Rattle.text_footnotes.specs.Targets.{noted_targets}
@@ -10,8 +10,7 @@ use Rattle.paragraph_laws.specs.ParagraphLines.{Plain, PlainItems}
 use Rattle.html_render_tree.specs.PlainText.{plain_closes, plain_marking}
 use Rattle.paragraph_laws.specs.ParagraphPages.{AreLaid, IsPlain}
 use Rattle.paragraph_laws.specs.ParagraphValues.{paragraph_values}
-use Rattle.paragraph_laws.proofs.OwnLines.{KnowsNormalText, are_lines, lines_are, some_wider}
-use Rattle.paragraph_laws.proofs.OwnLines.{wider_none}
+use Rattle.paragraph_laws.proofs.OwnLines.{KnowsNormalText, are_lines, lines_are, some_wider, wider_none}
 use Rattle.paragraph_laws.proofs.StatesLaid.{all_laid, all_shown, all_shown_are}
 use Rattle.paragraph_laws.proofs.ValuesLaid.{Page, Pages, begun_laid, page_is, parts_at, sub_at}
 

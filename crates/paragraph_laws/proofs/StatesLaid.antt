@@ -1,13 +1,12 @@
 -- What a block of lines makes of paragraphs.
-use Rattle.std.proofs.Common.{◌≡◌, ℕ, min, Bool, true, false, ◌||◌, List, [], ◌∷◌, ◌++◌, map}
-use Rattle.std.proofs.Common.{Option, None, Some, if◌then◌else◌, refl, sym, ap, ◌∙◌, append_assoc, append-nil, arith}
+use Rattle.std.proofs.Common.{◌≡◌, ◌||◌, [], ◌∷◌, ◌++◌, if◌then◌else◌, ◌∙◌, Bool, List, None, Option, Some, ap}
+use Rattle.std.proofs.Common.{append-nil, append_assoc, arith, false, map, min, refl, sym, true, ℕ}
 use Rattle.std.specs.Option.{option_and_then, option_map}
 use Rattle.std.specs.Prelude.{flat_map}
-use Rattle.block_layout.specs.Laid.{Laid, Running, add_text, add_text_lines, end_block, flush, is_ignored, laid_text}
-use Rattle.block_layout.specs.Laid.{lines_behind as found_behind}
-use Rattle.block_layout.specs.Laid.{finished, finished_lines, has_content as cells_have_content}
-use Rattle.block_layout.specs.Laid.{parted, start_awaited, start_block, text_laid, with_added, with_markers}
-use Rattle.block_layout.specs.Laid.{with_running}
+use Rattle.block_layout.specs.Laid.{Laid, Running, add_text, add_text_lines, end_block, finished, finished_lines, flush}
+use Rattle.block_layout.specs.Laid.{has_content as cells_have_content, is_ignored, laid_text}
+use Rattle.block_layout.specs.Laid.{lines_after as found_after, parted, start_awaited, start_block, text_laid}
+use Rattle.block_layout.specs.Laid.{with_added, with_markers, with_running}
 use Rattle.block_layout.specs.declared.measure.Measure.{Measure}
 use Rattle.text_normal.specs.Letters.{has_marker}
 use Rattle.text_normal.specs.Riders.{has_wide_text, normal_lines, normal_waiting}
@@ -17,11 +16,10 @@ use Rattle.text_borders.specs.Lines.{BlockLine, line_shown, text}
 use Rattle.text_pieces.specs.Items.{has_text, markers_of}
 use Rattle.text_pieces.specs.Sources.{Source, fragment, fragments, is_filled, letter, names_of}
 use Rattle.text_pieces.specs.declared.white_space.WhiteSpace.TheVariants.{Normal}
-use Rattle.text_wrapping.specs.Blocks.{Block, ended_lines, padded, without_source}
-use Rattle.text_wrapping.specs.Blocks.{lines_behind as ended_behind}
+use Rattle.text_wrapping.specs.Blocks.{Block, ended_lines, lines_after as ended_after, padded, without_source}
 use Rattle.text_wrapping.specs.NormalBlocks.{normal_block}
 use Rattle.paragraph_laws.specs.ParagraphLines.{Plain, PlainItems, block_start, has_content}
-use Rattle.paragraph_laws.proofs.OwnLines.{KnowsNormalText, lines_behind, own_by, own_lines, source_of}
+use Rattle.paragraph_laws.proofs.OwnLines.{KnowsNormalText, lines_after, own_by, own_lines, source_of}
 
 -- ---- nothing
 
@@ -114,8 +112,8 @@ module _ (width : ℕ) where
   found_in lines names = option_map (λ ls. (names, ls)) (ended_lines (text_block lines []))
 
   text_by : KnowsNormalText → (cs : List ℕ) (wide : Bool) →
-      option_and_then found_behind (option_map (λ e. (names_of e.source, without_source e))
-      (if wide then None else Some (ended_behind (text_block [] (source_of cs)) (normal_lines w (source_of cs)))))
+      option_and_then found_after (option_map (λ e. (names_of e.source, without_source e))
+      (if wide then None else Some (ended_after (text_block [] (source_of cs)) (normal_lines w (source_of cs)))))
       ≡ found_of (own_by wide w cs)
   text_by k cs true = refl
   text_by k cs false =
@@ -129,18 +127,18 @@ module _ (width : ℕ) where
       laid_text (text_block [] (source_of cs)) ≡ found_of (own_lines w cs)
   text_is k cs = text_by k cs (has_wide_text w (source_of cs))
 
-  abbrev behind : List (CellLine Plain) → Bool → List PlainItems → Laid Plain
-  behind before awaits own = state (before ++ cells own) None awaits
+  abbrev trailing : List (CellLine Plain) → Bool → List PlainItems → Laid Plain
+  trailing before awaits own = state (before ++ cells own) None awaits
 
   found_laid : (before : List (CellLine Plain)) (awaits : Bool) (own : Option (List PlainItems)) →
       option_map (text_laid measure [] [] (state before None awaits)) (found_of own)
-      ≡ option_map (behind before awaits) own
+      ≡ option_map (trailing before awaits) own
   found_laid before awaits None = refl
   found_laid before awaits (Some own) = ap (λ b. let laid : Option (Laid Plain) = Some (with_markers [] b) in laid)
       (lines_added own before awaits)
 
   flush_is : KnowsNormalText → (cs : List ℕ) (before : List (CellLine Plain)) (awaits : Bool) →
-      flush measure [] (state before (running_of cs) awaits) ≡ option_map (behind before awaits) (own_lines w cs)
+      flush measure [] (state before (running_of cs) awaits) ≡ option_map (trailing before awaits) (own_lines w cs)
   flush_is k [] before awaits = ap (λ ls. let laid : Option (Laid Plain) = Some (state ls None awaits) in laid)
       (sym (append-nil before) ∙ ap (λ ls. before ++ cells ls) (sym (no_lines w)))
   flush_is k (c ∷ cs) before awaits =
@@ -206,7 +204,7 @@ module _ (width : ℕ) where
   last_shown b = shown_of (option_map (λ (b : Laid Plain). map (λ l. finished measure l.line) b.lines) b)
 
   ends_by : (before : List PlainItems) (awaits : Bool) (own : Option (List PlainItems)) →
-      last_shown (option_map (behind (cells before) awaits) own)
+      last_shown (option_map (trailing (cells before) awaits) own)
       ≡ option_and_then (λ own. let lines : Option (List PlainItems) = Some (before ++ own) in lines) own
   ends_by before awaits None = refl
   ends_by before awaits (Some own) = ap Some
@@ -216,21 +214,21 @@ module _ (width : ℕ) where
   abbrev IsShownFrom : List (List ℕ) → List ℕ → List PlainItems → Type 0
   IsShownFrom texts cs before = (awaits : Bool) →
       all_shown (all_laid texts (state (cells before) (running_of cs) awaits))
-      ≡ option_and_then (λ own. lines_behind w (before ++ own) texts) (own_lines w cs)
+      ≡ option_and_then (λ own. lines_after w (before ++ own) texts) (own_lines w cs)
 
   joined_by : (texts : List (List ℕ)) (a b : List PlainItems) (own : Option (List PlainItems)) →
-      option_and_then (λ own. lines_behind w ((a ++ b) ++ own) texts) own
-      ≡ option_and_then (λ own. lines_behind w (a ++ (b ++ own)) texts) own
+      option_and_then (λ own. lines_after w ((a ++ b) ++ own) texts) own
+      ≡ option_and_then (λ own. lines_after w (a ++ (b ++ own)) texts) own
   joined_by texts a b None = refl
-  joined_by texts a b (Some own) = ap (λ ls. lines_behind w ls texts) (append_assoc a b own)
+  joined_by texts a b (Some own) = ap (λ ls. lines_after w ls texts) (append_assoc a b own)
 
   -- a paragraph after a text that is laid out
   next_by : KnowsNormalText → (texts : List (List ℕ)) (cs : List ℕ) (before : List PlainItems) (awaits : Bool)
       (own : Option (List PlainItems)) → ((before : List PlainItems) → IsShownFrom texts cs before) →
       all_shown (option_and_then (all_laid texts) (option_map (λ (b : Laid Plain). end_block b)
       (option_and_then (text_said cs)
-      (option_map (parted measure []) (option_map (behind (cells before) awaits) own)))))
-      ≡ option_and_then (λ own. lines_behind w (before ++ own) (cs ∷ texts)) own
+      (option_map (parted measure []) (option_map (trailing (cells before) awaits) own)))))
+      ≡ option_and_then (λ own. lines_after w (before ++ own) (cs ∷ texts)) own
   next_by k texts cs before awaits None shown = refl
   next_by k texts cs before awaits (Some own) shown =
       let lines = before ++ own in
@@ -254,13 +252,13 @@ module _ (width : ℕ) where
       ∙ next_by k texts d before awaits (own_lines w cs) (λ before. shown_from k texts d before)
 
   all_are_shown : KnowsNormalText → (texts : List (List ℕ)) →
-      all_shown (all_laid texts (state [] None false)) ≡ lines_behind w [] texts
+      all_shown (all_laid texts (state [] None false)) ≡ lines_after w [] texts
   all_are_shown k texts = shown_from k texts [] [] false
-      ∙ ap (λ ls. lines_behind w ls texts) (no_lines w)
+      ∙ ap (λ ls. lines_after w ls texts) (no_lines w)
 
 same_width : (width : ℕ) → min width width ≡ width
 same_width width = omega arith
 
 pub all_shown_are : (k : KnowsNormalText) (width : ℕ) (texts : List (List ℕ)) →
-    all_shown width (all_laid width texts (state [] None false)) ≡ lines_behind width [] texts
-all_shown_are k width texts = all_are_shown width k texts ∙ ap (λ n. lines_behind n [] texts) (same_width width)
+    all_shown width (all_laid width texts (state [] None false)) ≡ lines_after width [] texts
+all_shown_are k width texts = all_are_shown width k texts ∙ ap (λ n. lines_after n [] texts) (same_width width)

@@ -1,10 +1,10 @@
 -- The source of a text is read as the text, character by character.
-use Rattle.std.proofs.Common.{◌≡◌, ◌≢◌, ℕ, ◌==◌, Bool, false, inl, inr, List, [], ◌∷◌, ◌++◌, Option}
-use Rattle.std.proofs.Common.{if◌then◌else◌, sym, ap, subst, ◌∙◌, append_assoc, arith}
+use Rattle.std.proofs.Common.{◌≡◌, ◌≢◌, ◌==◌, [], ◌∷◌, ◌++◌, if◌then◌else◌, ◌∙◌, Bool, List, Option, ap, append_assoc}
+use Rattle.std.proofs.Common.{arith, false, inl, inr, subst, sym, ℕ}
 use Rattle.std.proofs.lemmas.Bool.Decides.{nat_tests}
 use Rattle.document_laws.specs.Escaped.{KnowsEscapes}
 use Rattle.token_grammar.specs.Items.{characters, null_character}
-use Rattle.token_grammar.specs.Lexemes.{lexeme, markup, one_character, ordinary_item, reference_lexeme, told}
+use Rattle.token_grammar.specs.Lexemes.{lexeme, markup, one_character, ordinary_item, reference_lexeme, emitted}
 use Rattle.token_grammar.specs.Meaning.{Meaning}
 use Rattle.token_grammar.specs.Reading.{Reading, goes}
 use Rattle.token_grammar.specs.References.{reference}
@@ -27,10 +27,10 @@ module _ (table : References) (foreign : Bool) (last : Option (List ℕ)) (rest 
   itself_read c less ampersand nul =
       ap (λ b. if b then markup table foreign (ordinary last) rest
       else (if c == 38 then reference_lexeme (ordinary last) rest (reference table rest)
-      else told (ordinary_item c ∷ []) (ordinary last) rest)) less
+      else emitted (ordinary_item c ∷ []) (ordinary last) rest)) less
       ∙ ap (λ b. if b then reference_lexeme (ordinary last) rest (reference table rest)
-      else told (ordinary_item c ∷ []) (ordinary last) rest) ampersand
-      ∙ ap (λ b. told ((if b then null_character else characters (c ∷ [])) ∷ []) (ordinary last) rest) nul
+      else emitted (ordinary_item c ∷ []) (ordinary last) rest) ampersand
+      ∙ ap (λ b. emitted ((if b then null_character else characters (c ∷ [])) ∷ []) (ordinary last) rest) nul
 
   character_read : KnowsEscapes table → (source : List ℕ) (c : ℕ) → IsCharacter source c →
       lexeme table foreign (ordinary last) (source ++ rest) ≡ one_character (ordinary last) c rest
@@ -61,9 +61,9 @@ module _ {A H : Type 0} (means : Meaning A H) (joins : Joins means) (skips : Ski
   text_read s source (c ∷ cs) is r =
       let first : List ℕ = is.0 in
       let others : List ℕ = is.1 in
-      let behind = text_read (means.step s (characters (c ∷ []))) others cs is.4
+      let trailing = text_read (means.step s (characters (c ∷ []))) others cs is.4
       (subst (λ z. Reading table means (ordinary last) z rest final) (sym (joins s c cs)) r) in
       subst (λ l. Reading table means (ordinary last) s l final)
       (sym (ap (λ l. l ++ rest) is.2 ∙ append_assoc first others rest))
       (goes (ordinary last) s (first ++ (others ++ rest)) (characters (c ∷ []) ∷ []) (ordinary last) (others ++ rest)
-      final (character_read table (means.foreign s) last (others ++ rest) knows first c is.3) behind)
+      final (character_read table (means.foreign s) last (others ++ rest) knows first c is.3) trailing)

@@ -1,6 +1,6 @@
 -- The trees of pages of paragraphs, without the numbers of nodes.
-use Rattle.std.proofs.Common.{◌≡◌, ℕ, ◌+◌, ◌<◌, ◌≤◌, zero, suc, List, [], ◌∷◌, ◌++◌, length, codes, refl, sym, ap}
-use Rattle.std.proofs.Common.{◌∙◌, append_assoc, arith}
+use Rattle.std.proofs.Common.{◌≡◌, ◌+◌, ◌<◌, ◌≤◌, [], ◌∷◌, ◌++◌, ◌∙◌, List, ap, append_assoc, arith, codes, length}
+use Rattle.std.proofs.Common.{refl, suc, sym, zero, ℕ}
 use Rattle.std.proofs.lemmas.List.{length-append}
 use Rattle.tree_forest.specs.Trees.{Trees, each_before, node, tree_before, trees}
 use Rattle.tree_forest.specs.Trees as of_trees
@@ -30,13 +30,13 @@ document_trees inside = node document
 
 -- ---- a node of a forest, by what stands before it
 
-node_behind : (front rest : Forest) (x : Node) → node_at (length front) (front ++ x ∷ rest) ≡ x
-node_behind [] rest x = refl
-node_behind (y ∷ front) rest x = node_behind front rest x
+node_after : (front rest : Forest) (x : Node) → node_at (length front) (front ++ x ∷ rest) ≡ x
+node_after [] rest x = refl
+node_after (y ∷ front) rest x = node_after front rest x
 
 pub node_here : (f front rest : Forest) (x : Node) (n : ℕ) → f ≡ front ++ x ∷ rest → length front ≡ n → node_at n f ≡ x
 node_here f front rest x n e before = ap (λ g. node_at n g) e
-    ∙ ap (λ k. node_at k (front ++ x ∷ rest)) (sym before) ∙ node_behind front rest x
+    ∙ ap (λ k. node_at k (front ++ x ∷ rest)) (sym before) ∙ node_after front rest x
 
 one_more : (a b n : ℕ) → a ≡ b + 1 → b ≡ n → a ≡ suc n
 one_more a b n e h = omega (arith, e, h)
@@ -64,11 +64,11 @@ less a s k h = omega (arith, h)
 some_left : (s k : ℕ) → suc (suc 0 + s) ≤ k → 0 < k
 some_left s k h = omega (arith, h)
 
-number_behind : (a n : ℕ) → a ≡ suc n → a ≡ suc n + 0
-number_behind a n e = omega (arith, e)
+number_after : (a n : ℕ) → a ≡ suc n → a ≡ suc n + 0
+number_after a n e = omega (arith, e)
 
-number_behind_text : (a n : ℕ) → a ≡ suc (suc n) → a ≡ suc n + suc 0
-number_behind_text a n e = omega (arith, e)
+number_after_text : (a n : ℕ) → a ≡ suc (suc n) → a ≡ suc n + suc 0
+number_after_text a n e = omega (arith, e)
 
 abbrev p_node : List ℕ → Node
 p_node children = node_of_element (codes "p") [] children
@@ -85,7 +85,7 @@ trees_of_listed ([] ∷ texts) k n f front e before held =
     (node_here f front later x n e before)
     ∙ ap (λ ts. node (kind_of (codes "p")) of_trees.none ts)
     (trees_of_listed texts k (suc n + 0) f (front ++ x ∷ []) (e ∙ sym (append_assoc front (x ∷ []) later))
-    (number_behind (length (front ++ x ∷ [])) n (longer front x n before)) (less 0 (size rest) k held))
+    (number_after (length (front ++ x ∷ [])) n (longer front x n before)) (less 0 (size rest) k held))
 trees_of_listed ((c ∷ cs) ∷ texts) k n f front e before held =
     let x = p_node (suc n ∷ []) in
     let t = text_node (c ∷ cs) in
@@ -93,16 +93,16 @@ trees_of_listed ((c ∷ cs) ∷ texts) k n f front e before held =
     let m = suc n + suc 0 in
     let later = listed m rest in
     let more = each_before (tree_before (suc k) f) (roots m rest) in
-    let behind_p : f ≡ (front ++ x ∷ []) ++ t ∷ later = e ∙ sym (append_assoc front (x ∷ []) (t ∷ later)) in
+    let after_p : f ≡ (front ++ x ∷ []) ++ t ∷ later = e ∙ sym (append_assoc front (x ∷ []) (t ∷ later)) in
     let front_p = longer front x n before in
     tree_here k n f x more (node_here f front (t ∷ later) x n e before)
     ∙ ap (λ ts. node (kind_of (codes "p")) ts more)
     (text_here k (suc n) f (c ∷ cs) (some_left (size rest) k held)
-    (node_here f (front ++ x ∷ []) later t (suc n) behind_p front_p))
+    (node_here f (front ++ x ∷ []) later t (suc n) after_p front_p))
     ∙ ap (λ ts. node (kind_of (codes "p")) (text_trees (c ∷ cs)) ts)
     (trees_of_listed texts k m f ((front ++ x ∷ []) ++ t ∷ [])
-    (behind_p ∙ sym (append_assoc (front ++ x ∷ []) (t ∷ []) later))
-    (number_behind_text (length ((front ++ x ∷ []) ++ t ∷ [])) n (longer (front ++ x ∷ []) t (suc n) front_p))
+    (after_p ∙ sym (append_assoc (front ++ x ∷ []) (t ∷ []) later))
+    (number_after_text (length ((front ++ x ∷ []) ++ t ∷ [])) n (longer (front ++ x ∷ []) t (suc n) front_p))
     (less (suc 0) (size rest) k held))
 
 -- ---- the whole page

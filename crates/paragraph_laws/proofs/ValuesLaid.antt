@@ -1,6 +1,6 @@
 -- What the walk of a render tree makes of the values of paragraphs.
-use Rattle.std.proofs.Common.{◌≡◌, ℕ, Bool, true, false, List, [], ◌∷◌, Option, None, Some, if◌then◌else◌}
-use Rattle.std.proofs.Common.{refl, ap, ◌∙◌}
+use Rattle.std.proofs.Common.{◌≡◌, [], ◌∷◌, if◌then◌else◌, ◌∙◌, Bool, List, None, Option, Some, ap, false, refl, true}
+use Rattle.std.proofs.Common.{ℕ}
 use Rattle.std.specs.Option.{option_and_then, option_map}
 use Rattle.block_layout.specs.Laid.{Laid, add_text, end_block, is_ignored, start_awaited, start_block}
 use Rattle.html_render_tree.specs.PageLines.{Setting, laid_page, prefix_columns}
@@ -9,7 +9,7 @@ use Rattle.render_values.specs.Looks.{plain}
 use Rattle.render_values.specs.Values.{Values, none}
 use Rattle.render_values.specs.declared.info.RenderInfo.TheVariants as infos
 use Rattle.html_render_tree.specs.Begins.{begins, ends, following, leading, style_begins, style_ends}
-use Rattle.html_render_tree.specs.Laying.{Laying, Step, in_current, in_turn, outside, says}
+use Rattle.html_render_tree.specs.LayoutState.{LayoutState, Step, in_current, in_turn, outside, says}
 use Rattle.html_render_tree.specs.Around.TheVariants.{Flow}
 use Rattle.html_render_tree.specs.Lay.{Content, content_of, holds, laid, laid_parts, lay}
 use Rattle.block_trait.specs.Calls.{adds_text, ends_block, starts_block}
@@ -31,7 +31,7 @@ abbrev pub Pages : Type 0
 Pages = Parts (Unit {0}) (Unit {0})
 
 abbrev Layings : Type 0
-Layings = Laying (Unit {0}) (Unit {0})
+Layings = LayoutState (Unit {0}) (Unit {0})
 
 abbrev going : Layings → Option Layings
 going l = Some l

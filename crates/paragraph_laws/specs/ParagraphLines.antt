@@ -33,8 +33,8 @@ abbrev pub block_start : {S : Type 0} → List (List (Item S)) → List (List (I
 block_start before = if has_content before then [] ∷ [] else []
 
 -- The lines of paragraphs with these texts, after the lines before them.
-abbrev pub AreLinesBehind : ℕ → List PlainItems → List (List ℕ) → List PlainItems → Type 0
-AreLinesBehind width before [] lines = lines ≡ before
-AreLinesBehind width before (text ∷ texts) lines =
+abbrev pub AreLinesAfter : ℕ → List PlainItems → List (List ℕ) → List PlainItems → Type 0
+AreLinesAfter width before [] lines = lines ≡ before
+AreLinesAfter width before (text ∷ texts) lines =
     (own : List PlainItems) × AreParagraphLines width text own
-    × AreLinesBehind width (before ++ (block_start before ++ own)) texts lines
+    × AreLinesAfter width (before ++ (block_start before ++ own)) texts lines

@@ -7,7 +7,7 @@ use Rattle.render_conversion.specs.Decorating.{decorating_rules, seen_rule}
 use Rattle.render_values.specs.Values.{Values, none}
 use Rattle.block_trait.specs.Defaults.{default_options}
 use Rattle.dom_styles.specs.declared.rules.StyleRule.{StyleRule}
-use Rattle.paragraph_laws.specs.ParagraphLines.{AreLinesBehind, IsWiderText, PlainItems}
+use Rattle.paragraph_laws.specs.ParagraphLines.{AreLinesAfter, IsWiderText, PlainItems}
 use Rattle.paragraph_laws.specs.ParagraphTrees.{paragraph_tree}
 
 -- rules of style that say nothing of paragraphs: none, or those that mark emphasis, strong text, terms and code
@@ -27,7 +27,7 @@ pub record AreLaid (c : Setting (Unit {0})) (width : ℕ) (texts : List (List �
   pub some : values ≢ none
   pub lines : (lines : List PlainItems)
       → (page_lines plain_marking (λ _. tt) plain_closes c width values ≡ Some lines)
-      ↔ AreLinesBehind width [] texts lines
+      ↔ AreLinesAfter width [] texts lines
   pub narrow : (page_lines plain_marking (λ _. tt) plain_closes c width values ≡ None)
       ↔ Any (IsWiderText width) texts
 

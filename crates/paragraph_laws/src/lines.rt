@@ -8,7 +8,10 @@ ghost use Rattle.render_conversion.specs.Conversion.{document_values};
 ghost use Rattle.dom_styles.specs.declared.rules.StyleRule.{StyleRule};
 
 use document_laws::a_planted_tree_is_at_once;
-use text_block_renderer::{letters_of_texts, normal_lines_are_fullest, normal_lines_keep_markers, normal_text_is_kept, one_fullest_layout, wide_text_never_fits};
+use text_block_renderer::{
+    letters_of_texts, normal_lines_are_fullest, normal_lines_keep_markers, normal_text_is_kept,
+    one_fullest_layout, wide_text_never_fits,
+};
 
 /// The values of a page of paragraphs: a block for each, and a text in it unless that is empty.
 pub fn paragraphs_have_their_values()

@@ -13,7 +13,7 @@ use Rattle.html_tree_builder.specs.declared.options.ParseOpts.{ParseOpts}
 use Rattle.page_config.specs.PageAnswers.{ArePageValues, HasAnswer, fail, lines, too_narrow}
 use Rattle.page_config.specs.Settings.{PageSetting}
 use Rattle.page_reading.specs.PageTrees.{IsTreeOfBytes}
-use Rattle.paragraph_laws.specs.ParagraphLines.{AreLinesBehind, IsWiderText, PlainItems}
+use Rattle.paragraph_laws.specs.ParagraphLines.{AreLinesAfter, IsWiderText, PlainItems}
 use Rattle.paragraph_laws.specs.ParagraphPages.{AreLaid, ParagraphPagesAreLaid}
 use Rattle.paragraph_page_laws.specs.ParagraphAnswers.{AreAnswered, IsPlainly}
 use Rattle.paragraph_laws.specs.ParagraphPage.{IsParagraphPage}
@@ -53,10 +53,10 @@ module _ (has_tree : HasTree) (trees : ParagraphPagesHaveTheirTrees handle_of) (
   laid_at : (width : ℕ) → 0 < width → AreLaid c.rendering width texts its_values
   laid_at width wide = are_laid c.rules c.rendering width texts plainly.rules plainly.rendering wide
 
-  lines_told : (width : ℕ) (shown : List PlainItems)
+  lines_emitted : (width : ℕ) (shown : List PlainItems)
       → HasAnswer plain_marking (λ _. tt) plain_closes c width bytes (lines shown)
-      → (0 < width) × AreLinesBehind width [] texts shown
-  lines_told width shown has =
+      → (0 < width) × AreLinesAfter width [] texts shown
+  lines_emitted width shown has =
       let wide = has.answered.1.0 in (
         wide,
         ((laid_at width wide).lines shown).0
@@ -64,12 +64,12 @@ module _ (has_tree : HasTree) (trees : ParagraphPagesHaveTheirTrees handle_of) (
             (its_values_alone has.values has.page) has.answered.1.1),
       )
 
-  lines_had : (width : ℕ) (shown : List PlainItems) → (0 < width) × AreLinesBehind width [] texts shown
+  lines_had : (width : ℕ) (shown : List PlainItems) → (0 < width) × AreLinesAfter width [] texts shown
       → HasAnswer plain_marking (λ _. tt) plain_closes c width bytes (lines shown)
-  lines_had width shown (wide, behind) = let laid = laid_at width wide in record {
+  lines_had width shown (wide, trailing) = let laid = laid_at width wide in record {
     values = its_values;
     page = are_its_values;
-    answered = (laid.some, (wide, (laid.lines shown).1 behind));
+    answered = (laid.some, (wide, (laid.lines shown).1 trailing));
   }
 
   narrow_by : (width : ℕ) (values : Values) → values ≡ its_values → (0 < width) ⊎ (width ≡ 0)
@@ -85,9 +85,9 @@ module _ (has_tree : HasTree) (trees : ParagraphPagesHaveTheirTrees handle_of) (
     wide_by (inl wide) = inl wide
     wide_by (inr empty) = inr (omega (arith, empty))
 
-  narrow_told : (width : ℕ) → HasAnswer plain_marking (λ _. tt) plain_closes c width bytes too_narrow
+  narrow_emitted : (width : ℕ) → HasAnswer plain_marking (λ _. tt) plain_closes c width bytes too_narrow
       → (width ≡ 0) ⊎ Any (IsWiderText width) texts
-  narrow_told width has = narrow_in has.values (its_values_alone has.values has.page) has.answered.1 where
+  narrow_emitted width has = narrow_in has.values (its_values_alone has.values has.page) has.answered.1 where
     narrow_in : (values : Values) → values ≡ its_values
         → (width ≡ 0) ⊎ (page_lines plain_marking (λ _. tt) plain_closes c.rendering width values ≡ None)
         → (width ≡ 0) ⊎ Any (IsWiderText width) texts
@@ -117,7 +117,7 @@ module _ (has_tree : HasTree) (trees : ParagraphPagesHaveTheirTrees handle_of) (
 
   pub answered : (width : ℕ) → AreAnswered c width bytes texts
   answered width = record {
-    laid = λ shown. (lines_told width shown, lines_had width shown);
-    narrow = (narrow_told width, narrow_had width);
+    laid = λ shown. (lines_emitted width shown, lines_had width shown);
+    narrow = (narrow_emitted width, narrow_had width);
     other = not_nothing width;
   }

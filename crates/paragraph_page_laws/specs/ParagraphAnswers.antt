@@ -7,7 +7,7 @@ use Rattle.html_render_tree.specs.PlainText.{plain_closes, plain_marking}
 use Rattle.html_tree_builder.specs.Defaults.{default_parse}
 use Rattle.page_config.specs.PageAnswers.{HasAnswer, fail, lines, too_narrow}
 use Rattle.page_config.specs.Settings.{PageSetting}
-use Rattle.paragraph_laws.specs.ParagraphLines.{AreLinesBehind, IsWiderText, PlainItems}
+use Rattle.paragraph_laws.specs.ParagraphLines.{AreLinesAfter, IsWiderText, PlainItems}
 use Rattle.paragraph_laws.specs.ParagraphPages.{AreQuiet, IsPlain}
 use Rattle.paragraph_laws.specs.ParagraphPage.{IsParagraphPage}
 use Rattle.page_decoding.specs.ReplacedText.{replaced_text}
@@ -16,7 +16,7 @@ use Rattle.page_decoding.specs.ReplacedText.{replaced_text}
 -- of the texts is legal; and there is always something to render.
 pub record AreAnswered (c : PageSetting (Unit {0})) (width : ℕ) (bytes : List ℕ) (texts : List (List ℕ)) : Type 0 where
   pub laid : (shown : List PlainItems) → HasAnswer plain_marking (λ _. tt) plain_closes c width bytes (lines shown)
-      ↔ ((0 < width) × AreLinesBehind width [] texts shown)
+      ↔ ((0 < width) × AreLinesAfter width [] texts shown)
   pub narrow : HasAnswer plain_marking (λ _. tt) plain_closes c width bytes too_narrow
       ↔ ((width ≡ 0) ⊎ Any (IsWiderText width) texts)
   pub other : HasAnswer plain_marking (λ _. tt) plain_closes c width bytes fail → ⊥

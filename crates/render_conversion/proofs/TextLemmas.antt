@@ -1,6 +1,6 @@
 -- Texts that are empty.
-use Rattle.std.proofs.Common.{◌≡◌, ℕ, true, false, List, [], ◌∷◌, length, ◌==◌, chars, IsUtf8, refl, sym, ap, ◌∙◌}
-use Rattle.std.proofs.Common.{arith}
+use Rattle.std.proofs.Common.{◌≡◌, [], ◌∷◌, ◌==◌, ◌∙◌, IsUtf8, List, ap, arith, chars, false, length, refl, sym, true}
+use Rattle.std.proofs.Common.{ℕ}
 use Rattle.std.specs.Prelude.{Option}
 use Rattle.std.proofs.lemmas.Bool.Decides.{nat_tests}
 use Rattle.std.proofs.lemmas.Str.{chars-nil}

@@ -9,8 +9,8 @@ use Rattle.render_values.specs.declared.info.RenderInfo.{RenderInfo}
 use Rattle.render_values.specs.declared.info.RenderInfo.TheVariants as infos
 use Rattle.render_values.specs.declared.style.RenderStyle.{RenderStyle}
 use Rattle.render_conversion.specs.ListRows.{target}
-use Rattle.render_conversion.specs.RowTrees.{alone, attribute, beside, by_rules, holding, html, shown, words}
-use Rattle.render_conversion.specs.RowTrees.{without_rules}
+use Rattle.render_conversion.specs.RowTrees.{alone, attribute, beside, by_rules, holding, html, shown, without_rules}
+use Rattle.render_conversion.specs.RowTrees.{words}
 use Rattle.render_conversion.specs.Styles.{Part, Parts, Styles, all_unset, unset}
 
 -- rules for elements of one name

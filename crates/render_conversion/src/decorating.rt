@@ -4,9 +4,9 @@ ghost use Rattle.tree_names.specs.Sets.{is_ascii_word};
 ghost use Rattle.render_conversion.specs.Decorating.{content_rule, decorating_rules, seen_rule};
 ghost use Rattle.dom_styles.specs.declared.rules.StylePlace.TheVariants.{After, Before};
 
+use dom_styles::{Importance, Style, StyleDecl, StyleOrigin, StylePlace, StyleRule};
 use html_lexemes::{LocalName, Text};
 use std::alloc::{AllocError, Global};
-use dom_styles::{Importance, Style, StyleDecl, StyleOrigin, StylePlace, StyleRule};
 
 // a word of ASCII characters as a text
 fn word(alloc: Global, word: &str) -> Result<Text, AllocError>

@@ -6,8 +6,8 @@ ghost use Rattle.render_conversion.specs.Fragments.{fragment_name, fragment_of};
 
 use html_lexemes::{Attributes, QualName, Text};
 use html_render_dom::{Handle, NodeData, RcDom};
-use tree_names::is_html;
 use std::alloc::AllocError;
+use tree_names::is_html;
 use tree_predicates::value_of;
 
 fn fragment_name<'a>(name: &QualName, attrs: &'a Attributes) -> Option<&'a Text>

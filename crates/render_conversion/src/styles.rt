@@ -13,10 +13,10 @@ ghost use Rattle.render_conversion.specs.Heads.{look_of};
 ghost use Rattle.render_conversion.specs.Seen.{seen_part, seen_parts};
 ghost use Rattle.render_conversion.specs.Styles.{all_unset, declared, part_at, parts_by, parts_of, styles_of, unset};
 
+use dom_styles::{ComputedStyle, Display, PlaceStyle, StyleRule, the_cascade_is_a_function};
 use html_lexemes::{LocalName, Text};
 use html_render_dom::{Handle, RcDom};
 use render_values::{RenderInfo, RenderStyle};
-use dom_styles::{ComputedStyle, Display, PlaceStyle, StyleRule, the_cascade_is_a_function};
 use text_decorators::Colour;
 use text_pieces::WhiteSpace;
 

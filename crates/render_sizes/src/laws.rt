@@ -6,8 +6,8 @@ ghost use Rattle.render_sizes.specs.Sound.{AreTableCells, IsSound};
 ghost use Rattle.render_values.specs.Values.{Values};
 ghost use Rattle.table_widths.specs.RowLaws.{AreWholeRows};
 
-use table_widths::{rows_across_are_whole, tables_ask_for_their_least};
 use table_grid::columns_of_a_grid_are_sized;
+use table_widths::{rows_across_are_whole, tables_ask_for_their_least};
 
 // What is measured is sound, and the cells of rows are what the grid of a table asks for.
 pub(crate) fn measured_is_sound()

@@ -1,6 +1,6 @@
 -- What calls on the fields say of actions.
-use Rattle.std.proofs.Common.{◌≡◌, ℕ, ◌-◌, true, if◌then◌else◌, List, [], ◌∷◌, ◌++◌, Option, None, Some, MatchOption}
-use Rattle.std.proofs.Common.{option_to_list, append_assoc, ap₂, bytes_eq, fold, map, refl, reverse, take, sym, ap, ◌∙◌}
+use Rattle.std.proofs.Common.{◌≡◌, ◌-◌, if◌then◌else◌, [], ◌∷◌, ◌++◌, ◌∙◌, List, MatchOption, None, Option, Some, ap}
+use Rattle.std.proofs.Common.{append_assoc, ap₂, bytes_eq, fold, map, option_to_list, refl, reverse, sym, take, true, ℕ}
 use Rattle.std.proofs.lemmas.List.{reverse-append, append-nil}
 use Rattle.tree_forest.specs.Forest.{Forest, element_of, kind_at, name_of}
 use Rattle.html_lexemes.specs.declared.names.QualName.{QualName}

@@ -1,7 +1,7 @@
 -- The element that was opened first, and the second: the first two in memory.
-use Rattle.std.proofs.Common.{◌≡◌, ℕ, ◌<◌, ◌≤◌, true, List, [], ◌∷◌, ◌++◌, length, Option, None, Some, IfSome}
-use Rattle.std.proofs.Common.{MatchOption, Bor, HoldsAt, map, option_copied, option_map, reverse, slice_get, arith}
-use Rattle.std.proofs.Common.{refl, sym, ap, ◌∙◌, subst}
+use Rattle.std.proofs.Common.{◌≡◌, ◌<◌, ◌≤◌, [], ◌∷◌, ◌++◌, ◌∙◌, Bor, HoldsAt, IfSome, List, MatchOption, None, Option}
+use Rattle.std.proofs.Common.{Some, ap, arith, length, map, option_copied, option_map, refl, reverse, slice_get, subst}
+use Rattle.std.proofs.Common.{sym, true, ℕ}
 use Rattle.std.proofs.lemmas.List.{reverse-append}
 use Rattle.tree_forest.specs.Forest.{is_in}
 use Rattle.html_tree_state.specs.Building.{stack_of}

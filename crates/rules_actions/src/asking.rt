@@ -9,9 +9,9 @@ ghost use Rattle.rules_table.specs.Asking.{is_itself_in_scope, second_opened};
 ghost use Rattle.rules_table.specs.Settling.{Ready};
 
 use crate::parse::Parse;
+use rules_table::open_elements_are_elements;
 use tree_forest::TreeSink;
 use tree_names::{ElementSet, Scope, collects_table_text, is_html};
-use rules_table::open_elements_are_elements;
 
 impl<S: TreeSink> Parse<S> {
     /// Whether an element of a set is in scope.

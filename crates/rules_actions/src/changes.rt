@@ -8,9 +8,9 @@ ghost use Rattle.rules_table.specs.Actions.{keep_head, keep_pending, mode_by_ele
 ghost use Rattle.rules_table.specs.Actions.{push_template_mode, refuse_frameset, reset, skip_next_line_feed};
 
 use crate::parse::Parse;
-use tree_forest::TreeSink;
 use html_lexemes::{ParseFault, Text};
 use rules_table::{actions_keep_what_is_ready, but_text, out_of_text};
+use tree_forest::TreeSink;
 use tree_predicates::InsertionMode;
 
 impl<S: TreeSink> Parse<S> {

@@ -10,10 +10,10 @@ ghost use Rattle.tree_forest.specs.Forest.{is_in};
 ghost use Rattle.tree_names.specs.Sets.{is_ascii_word};
 
 use crate::parse::Parse;
-use tree_forest::{QuirksMode, TreeSink};
 use html_lexemes::{Attributes, Doctype, LocalName, Namespace, ParseFault, QualName, Tag, Text};
 use html_tree_state::{InsertionPoint, PushFlag};
 use rules_table::{Target, actions_keep_what_is_ready, open_elements_are_elements};
+use tree_forest::{QuirksMode, TreeSink};
 
 impl<S: TreeSink> Parse<S> {
     /// An element is inserted for a tag ("insert an HTML element").

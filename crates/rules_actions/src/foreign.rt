@@ -8,10 +8,10 @@ ghost use Rattle.rules_table.specs.Settling.{Ready};
 ghost use Rattle.rules_table.specs.Actions.{act, break_out, close_foreign, insert_foreign, take_out};
 
 use crate::parse::Parse;
-use tree_forest::{TreeSink, what_was_not_named_stays};
 use html_lexemes::{LocalName, Namespace, ParseFault, QualName, Tag};
 use html_tree_state::PushFlag;
 use rules_table::{actions_keep_what_is_ready, adjusted_current_nodes_are_elements};
+use tree_forest::{TreeSink, what_was_not_named_stays};
 
 impl<S: TreeSink> Parse<S> {
     /// The adjusted current node: a fragment's context while no more than its root is open, else the current node

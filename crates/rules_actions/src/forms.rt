@@ -8,10 +8,10 @@ ghost use Rattle.rules_table.specs.Actions.{with_tree};
 ghost use Rattle.rules_table.specs.Settling.{Ready};
 
 use crate::parse::Parse;
-use tree_forest::TreeSink;
 use html_lexemes::{Attributes, ParseFault, QualName};
-use tree_names::is_html;
 use html_tree_state::{InsertionPoint, PushFlag};
+use tree_forest::TreeSink;
+use tree_names::is_html;
 use tree_predicates::value_of;
 
 impl<S: TreeSink> Parse<S> {

@@ -1,8 +1,8 @@
 //! What is kept beside the tree.
 
-use tree_forest::QuirksMode;
 use html_lexemes::Text;
 use rules_table::TreeBuilderOpts;
+use tree_forest::QuirksMode;
 use tree_predicates::InsertionMode;
 
 /// What is kept while a page's tree is built, beside the tree (WHATWG HTML, 13.2.4).

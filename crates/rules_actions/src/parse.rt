@@ -1,8 +1,8 @@
 //! A page that is being parsed.
 
 use crate::kept::Kept;
-use tree_forest::TreeSink;
 use html_tree_state::Construction;
+use tree_forest::TreeSink;
 
 /// A page that is being parsed: what is kept, and its tree.
 pub struct Parse<S: TreeSink> {

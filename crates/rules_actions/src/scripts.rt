@@ -6,8 +6,8 @@ ghost use Rattle.rules_actions.specs.Parsed.{state_of};
 ghost use Rattle.rules_table.specs.Settling.{Ready};
 
 use crate::parse::Parse;
-use tree_forest::TreeSink;
 use html_lexemes::ParseFault;
+use tree_forest::TreeSink;
 use tree_names::is_html;
 
 impl<S: TreeSink> Parse<S> {

@@ -13,11 +13,11 @@ ghost use Rattle.tree_names.specs.TagSets.{formatting};
 ghost use Rattle.tree_names.specs.Wanted.{elements_of};
 
 use crate::parse::Parse;
-use tree_forest::TreeSink;
 use html_lexemes::{LocalName, ParseFault, Tag};
-use tree_names::{ElementSet, Scope};
-use rules_table::actions_keep_what_is_ready;
 use html_tree_state::words_keep_a_tree_sound;
+use rules_table::actions_keep_what_is_ready;
+use tree_forest::TreeSink;
+use tree_names::{ElementSet, Scope};
 
 impl<S: TreeSink> Parse<S> {
     /// The current node is popped.

@@ -22,11 +22,11 @@ use crate::in_body_phrases::{
     other_start, ruby_base_start, ruby_text_start, rule_start, select_start, svg_start,
     textarea_start, void_phrase_start, void_source_start, xmp_start,
 };
-use rules_actions::{Flow, Parse};
-use rules_table::Target;
-use rules_head::{html_start, in_head_start, template_end};
-use tree_forest::TreeSink;
 use html_lexemes::{ParseFault, Tag};
+use rules_actions::{Flow, Parse};
+use rules_head::{html_start, in_head_start, template_end};
+use rules_table::Target;
+use tree_forest::TreeSink;
 use tree_names::{TagGroup, formatting_groups_are_formatting};
 
 /// A start tag.

@@ -3,12 +3,12 @@ ghost use Rattle.rules_actions.specs.Follows.{Follows};
 ghost use Rattle.rules_actions.specs.Parsed.{state_of};
 ghost use Rattle.rules_table.specs.Settling.{Ready};
 ghost use Rattle.rules_table.specs.InBodyBlocks.{block_start, body_start, button_start, definition_start, form_start};
-ghost use Rattle.rules_table.specs.InBodyBlocks.{frameset_start, heading_start};
-ghost use Rattle.rules_table.specs.InBodyBlocks.{list_item_start, plaintext_start, preformatted_start, table_start};
+ghost use Rattle.rules_table.specs.InBodyBlocks.{frameset_start, heading_start, list_item_start, plaintext_start};
+ghost use Rattle.rules_table.specs.InBodyBlocks.{preformatted_start, table_start};
 
+use html_lexemes::{ParseFault, Tag, TokenSinkResult};
 use rules_actions::{Flow, Parse};
 use tree_forest::{QuirksMode, TreeSink};
-use html_lexemes::{ParseFault, Tag, TokenSinkResult};
 use tree_names::ElementSet;
 use tree_predicates::InsertionMode;
 

@@ -8,9 +8,9 @@ ghost use Rattle.rules_table.specs.InBodyEnds.{block_end, body_end, definition_e
 ghost use Rattle.rules_table.specs.InBodyEnds.{line_break_end, list_item_end, marked_end, p_end};
 ghost use Rattle.rules_table.specs.Rows.{done};
 
+use html_lexemes::{ParseFault, Tag};
 use rules_actions::{Flow, Parse};
 use tree_forest::TreeSink;
-use html_lexemes::{ParseFault, Tag};
 use tree_names::ElementSet;
 use tree_predicates::InsertionMode;
 

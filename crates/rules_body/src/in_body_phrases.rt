@@ -1,25 +1,23 @@
 //! Start tags of formatting, of elements without contents and of controls in the "in body" insertion mode (WHATWG HTML,
 //! 13.2.6.4.7).
-ghost use Rattle.std.specs.Prelude.{◌≡◌};
+ghost use Rattle.std.specs.Prelude.{◌≡◌, true};
 ghost use Rattle.rules_actions.specs.Follows.{Follows};
 ghost use Rattle.rules_actions.specs.Parsed.{state_of};
 ghost use Rattle.rules_table.specs.Settling.{Ready};
-ghost use Rattle.std.specs.Prelude.{true};
 ghost use Rattle.tree_names.specs.Sets.{is_one_of};
 ghost use Rattle.tree_names.specs.TagSets.{formatting};
 ghost use Rattle.rules_table.specs.InBodyPhrases.{anchor_start, formatting_start, iframe_start, image_start};
-ghost use Rattle.rules_table.specs.InBodyPhrases.{input_start};
-ghost use Rattle.rules_table.specs.InBodyPhrases.{marked_start, math_start, no_break_start, noembed_start};
-ghost use Rattle.rules_table.specs.InBodyPhrases.{noscript_in_body};
-ghost use Rattle.rules_table.specs.InBodyPhrases.{option_group_start, option_start, other_start, ruby_base_start};
-ghost use Rattle.rules_table.specs.InBodyPhrases.{ruby_text_start, rule_start, select_start, textarea_start};
-ghost use Rattle.rules_table.specs.InBodyPhrases.{svg_start, void_phrase_start, void_source_start, xmp_start};
+ghost use Rattle.rules_table.specs.InBodyPhrases.{input_start, marked_start, math_start, no_break_start, noembed_start};
+ghost use Rattle.rules_table.specs.InBodyPhrases.{noscript_in_body, option_group_start, option_start, other_start};
+ghost use Rattle.rules_table.specs.InBodyPhrases.{ruby_base_start, ruby_text_start, rule_start, select_start};
+ghost use Rattle.rules_table.specs.InBodyPhrases.{svg_start, textarea_start, void_phrase_start, void_source_start};
+ghost use Rattle.rules_table.specs.InBodyPhrases.{xmp_start};
 
+use html_lexemes::states::RawKind;
+use html_lexemes::{Namespace, ParseFault, Tag};
 use rules_actions::{Flow, Parse};
 use rules_head::read_raw;
 use tree_forest::TreeSink;
-use html_lexemes::states::RawKind;
-use html_lexemes::{Namespace, ParseFault, Tag};
 use tree_names::ElementSet;
 use tree_predicates::is_hidden;
 

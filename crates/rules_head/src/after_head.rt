@@ -7,11 +7,11 @@ ghost use Rattle.rules_table.specs.Rows.{again};
 
 use crate::html_tag::html_start;
 use crate::in_head::{in_head_start, template_end};
-use tree_forest::TreeSink;
 use html_lexemes::{ParseFault, Tag};
-use tree_names::TagGroup;
 use rules_actions::{Flow, Parse};
 use rules_table::Target;
+use tree_forest::TreeSink;
+use tree_names::TagGroup;
 use tree_predicates::InsertionMode;
 
 /// A start tag.

@@ -6,10 +6,10 @@ ghost use Rattle.rules_table.specs.BeforeHead.{before_head_end, before_head_star
 ghost use Rattle.rules_table.specs.Rows.{again};
 
 use crate::html_tag::html_start;
-use tree_forest::TreeSink;
 use html_lexemes::{ParseFault, Tag};
-use tree_names::TagGroup;
 use rules_actions::{Flow, Parse};
+use tree_forest::TreeSink;
+use tree_names::TagGroup;
 use tree_predicates::InsertionMode;
 
 /// A start tag.

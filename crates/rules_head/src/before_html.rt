@@ -5,10 +5,10 @@ ghost use Rattle.rules_table.specs.Settling.{Ready};
 ghost use Rattle.rules_table.specs.BeforeHtml.{before_html_end, before_html_start, html_made};
 ghost use Rattle.rules_table.specs.Rows.{again};
 
-use tree_forest::TreeSink;
 use html_lexemes::{ParseFault, Tag};
-use tree_names::TagGroup;
 use rules_actions::{Flow, Parse};
+use tree_forest::TreeSink;
+use tree_names::TagGroup;
 use tree_predicates::InsertionMode;
 
 /// A start tag.

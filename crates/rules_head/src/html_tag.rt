@@ -4,9 +4,9 @@ ghost use Rattle.rules_actions.specs.Parsed.{state_of};
 ghost use Rattle.rules_table.specs.Settling.{Ready};
 ghost use Rattle.rules_table.specs.HtmlTag.{html_start};
 
-use tree_forest::TreeSink;
 use html_lexemes::{ParseFault, Tag};
 use rules_actions::{Flow, Parse};
+use tree_forest::TreeSink;
 
 /// The root takes the attributes that it lacks, where no template is open.
 pub fn html_start<S: TreeSink>(

@@ -13,12 +13,12 @@ ghost use Rattle.rules_table.specs.Encodings.{named_encoding};
 
 use crate::html_tag::html_start;
 use crate::raw_text::read_raw;
-use tree_forest::TreeSink;
 use html_lexemes::states::RawKind;
 use html_lexemes::{ParseFault, Tag, Text, TokenSinkResult};
-use rules_table::{Target, named_encoding};
-use tree_names::{ElementSet, TagGroup};
 use rules_actions::{Flow, Parse};
+use rules_table::{Target, named_encoding};
+use tree_forest::TreeSink;
+use tree_names::{ElementSet, TagGroup};
 use tree_predicates::InsertionMode;
 
 /// A start tag, whose element is inserted at the appropriate place or into the head.

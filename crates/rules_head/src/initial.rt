@@ -4,9 +4,9 @@ ghost use Rattle.rules_actions.specs.Parsed.{state_of};
 ghost use Rattle.rules_table.specs.Settling.{Ready};
 ghost use Rattle.rules_table.specs.Initial.{initial_comment, initial_doctype, initial_other};
 
-use tree_forest::{QuirksMode, TreeSink};
 use html_lexemes::{Doctype, ParseFault, Text};
 use rules_actions::{Flow, Parse};
+use tree_forest::{QuirksMode, TreeSink};
 use tree_predicates::{InsertionMode, quirks_mode_of};
 
 /// A comment.

@@ -6,10 +6,10 @@ ghost use Rattle.rules_actions.specs.declared.flow.Flow.TheVariants.{Asks};
 ghost use Rattle.rules_table.specs.Settling.{Ready, entered};
 ghost use Rattle.rules_table.specs.State.{raw};
 
-use tree_forest::TreeSink;
 use html_lexemes::TokenSinkResult;
 use html_lexemes::states::RawKind;
 use rules_actions::{Flow, Parse};
+use tree_forest::TreeSink;
 use tree_predicates::InsertionMode;
 
 /// The text of the element that was inserted is read up to its end tag, in the mode "text".

@@ -1,6 +1,6 @@
 -- The element below the current node, and what the end tag of a frameset comes to by it.
-use Rattle.std.proofs.Common.{◌≡◌, ℕ, Bool, true, false, ◌==◌, if◌then◌else◌, List, [], ◌∷◌, Option, None, Some}
-use Rattle.std.proofs.Common.{IfSome, codes, option_map, arith, refl, sym, ap, ◌∙◌}
+use Rattle.std.proofs.Common.{◌≡◌, ◌==◌, if◌then◌else◌, [], ◌∷◌, ◌∙◌, Bool, IfSome, List, None, Option, Some, ap, arith}
+use Rattle.std.proofs.Common.{codes, false, option_map, refl, sym, true, ℕ}
 use Rattle.std.proofs.lemmas.Bool.Decides.{nat_tests}
 use Rattle.tree_forest.specs.Forest.{is_in, name_of}
 use Rattle.html_lexemes.specs.declared.token.TokenSinkResult.TheVariants.{Continue}

@@ -7,9 +7,9 @@ ghost use Rattle.rules_table.specs.AfterBody.{after_after_body_end_of_file};
 
 use crate::after_body::body_again;
 use crate::page_end::stop_parsing;
-use tree_forest::TreeSink;
 use html_lexemes::{ParseFault, Text};
 use rules_actions::{Flow, Parse};
+use tree_forest::TreeSink;
 
 /// A comment goes to the document.
 pub fn after_after_body_comment<S: TreeSink>(

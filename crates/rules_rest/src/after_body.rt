@@ -7,11 +7,11 @@ ghost use Rattle.rules_table.specs.AfterBody.{after_body_start, body_again};
 ghost use Rattle.rules_table.specs.Rows.{again};
 
 use crate::page_end::stop_parsing;
+use html_lexemes::{ParseFault, Tag, Text};
+use rules_actions::{Flow, Parse};
 use rules_head::html_start;
 use tree_forest::TreeSink;
-use html_lexemes::{ParseFault, Tag, Text};
 use tree_names::TagGroup;
-use rules_actions::{Flow, Parse};
 use tree_predicates::InsertionMode;
 
 /// Anything else: the body goes on.

@@ -6,12 +6,12 @@ ghost use Rattle.rules_table.specs.Framesets.{after_after_frameset_comment, afte
 ghost use Rattle.rules_table.specs.Framesets.{frameset_end_of_file};
 
 use crate::page_end::stop_parsing;
-use rules_head::{html_start, in_head_start};
-use tree_forest::TreeSink;
 use html_lexemes::{ParseFault, Tag, Text};
-use tree_names::TagGroup;
 use rules_actions::{Flow, Parse};
+use rules_head::{html_start, in_head_start};
 use rules_table::Target;
+use tree_forest::TreeSink;
+use tree_names::TagGroup;
 use tree_predicates::InsertionMode;
 
 /// A start tag, in both modes.

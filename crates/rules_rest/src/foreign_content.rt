@@ -1,11 +1,10 @@
 //! Foreign content: by which rules a token is taken (WHATWG HTML, 13.2.6, "tree construction dispatcher"), and the
 //! rules for foreign content (13.2.6.5).
-ghost use Rattle.std.specs.Prelude.{◌≡◌, IfErr, IfOk, OnOk};
+ghost use Rattle.std.specs.Prelude.{◌≡◌, if◌then◌else◌, IfErr, IfOk, IfSome, List, OnOk, is_some, option_map, ℕ};
 ghost use Rattle.html_lexemes.specs.declared.fault.ParseFault.TheVariants.{Memory};
 ghost use Rattle.rules_actions.specs.Follows.{Follows};
 ghost use Rattle.rules_actions.specs.Parsed.{state_of};
 ghost use Rattle.rules_table.specs.Settling.{Ready};
-ghost use Rattle.std.specs.Prelude.{ℕ, List, IfSome, if◌then◌else◌, is_some, option_map};
 ghost use Rattle.tree_forest.specs.Forest.{IsElement};
 ghost use Rattle.html_lexemes.specs.declared.token.Doctype.{Doctype};
 ghost use Rattle.html_lexemes.specs.declared.token.Tag.{Tag as AnyTag};
@@ -14,10 +13,10 @@ ghost use Rattle.rules_table.specs.Actions.{act, close_foreign, is_text};
 ghost use Rattle.rules_table.specs.ForeignContent.{foreign_start, is_by_mode, namespace_at, node_here};
 ghost use Rattle.rules_table.specs.State.{character, comment, doctype, finish, null, start};
 
-use tree_forest::TreeSink;
 use html_lexemes::{Namespace, ParseFault, Tag};
 use rules_actions::{Flow, Parse};
 use rules_table::actions_keep_what_is_ready;
+use tree_forest::TreeSink;
 use tree_predicates::{InsertionMode, is_of_html, takes_start_as_html, takes_text_as_html};
 
 /// Whether the mode takes text, by the rules for HTML.

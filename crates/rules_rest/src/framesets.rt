@@ -1,18 +1,17 @@
 //! The "in frameset" insertion mode (WHATWG HTML, 13.2.6.4.18).
-ghost use Rattle.std.specs.Prelude.{◌≡◌};
+ghost use Rattle.std.specs.Prelude.{◌≡◌, option_map};
 ghost use Rattle.rules_actions.specs.Follows.{Follows};
 ghost use Rattle.rules_actions.specs.Parsed.{state_of};
 ghost use Rattle.rules_table.specs.Settling.{Ready};
-ghost use Rattle.std.specs.Prelude.{option_map};
 ghost use Rattle.html_tree_state.specs.OpenElements.{below_current, first_of};
 ghost use Rattle.rules_table.specs.Framesets.{frameset_closed, in_frameset_end, in_frameset_start};
 
-use rules_head::{html_start, in_head_start};
-use tree_forest::TreeSink;
 use html_lexemes::{ParseFault, Tag};
-use tree_names::{TagGroup, is_html};
 use rules_actions::{Flow, Parse};
+use rules_head::{html_start, in_head_start};
 use rules_table::{Target, open_elements_are_elements};
+use tree_forest::TreeSink;
+use tree_names::{TagGroup, is_html};
 use tree_predicates::InsertionMode;
 
 /// A start tag.

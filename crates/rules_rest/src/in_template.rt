@@ -4,12 +4,12 @@ ghost use Rattle.rules_actions.specs.Parsed.{state_of};
 ghost use Rattle.rules_table.specs.Settling.{Ready};
 ghost use Rattle.rules_table.specs.InTemplate.{becomes, in_template_end, in_template_start};
 
-use rules_head::{in_head_start, template_end};
-use tree_forest::TreeSink;
 use html_lexemes::{ParseFault, Tag};
-use tree_names::TagGroup;
 use rules_actions::{Flow, Parse};
+use rules_head::{in_head_start, template_end};
 use rules_table::Target;
+use tree_forest::TreeSink;
+use tree_names::TagGroup;
 use tree_predicates::InsertionMode;
 
 /// A start tag: by the first one, the template's contents are those of another mode.

@@ -6,10 +6,10 @@ ghost use Rattle.rules_table.specs.Settling.{Ready};
 ghost use Rattle.rules_actions.specs.declared.flow.Flow.TheVariants.{Done};
 ghost use Rattle.rules_table.specs.InBody.{in_template_end_of_file};
 
-use tree_forest::TreeSink;
 use html_lexemes::ParseFault;
-use tree_names::ElementSet;
 use rules_actions::{Flow, Parse};
+use tree_forest::TreeSink;
+use tree_names::ElementSet;
 
 /// A template that is open is closed, and the mode that stands then takes the end of the page.
 pub fn end_of_file<S: TreeSink>(page: &mut Parse<S>) -> Result<Flow<S::Handle>, ParseFault>

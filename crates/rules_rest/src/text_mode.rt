@@ -8,10 +8,10 @@ ghost use Rattle.html_tree_state.specs.OpenElements.{current_of};
 ghost use Rattle.rules_table.specs.Actions.{act, go_back, pop};
 ghost use Rattle.rules_table.specs.TextMode.{text_mode_end, text_mode_end_of_file};
 
-use tree_forest::TreeSink;
 use html_lexemes::{ParseFault, TokenSinkResult};
-use tree_names::TagGroup;
 use rules_actions::{Flow, Parse};
+use tree_forest::TreeSink;
+use tree_names::TagGroup;
 
 /// An end tag: the element is over. A script is then run.
 pub fn text_mode_end<S: TreeSink>(

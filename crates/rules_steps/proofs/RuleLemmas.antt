@@ -1,6 +1,6 @@
 -- A tag that breaks out of foreign content is taken by the rules of the mode after that.
-use Rattle.std.proofs.Common.{◌≡◌, ℕ, Bool, true, false, if◌then◌else◌, [], ◌∷◌, refl, sym, ap, ◌∙◌}
-use Rattle.std.proofs.Common.{IfOk, Result, Ok, Err}
+use Rattle.std.proofs.Common.{◌≡◌, if◌then◌else◌, [], ◌∷◌, ◌∙◌, Bool, Err, IfOk, Ok, Result, ap, false, refl, sym, true}
+use Rattle.std.proofs.Common.{ℕ}
 use Rattle.html_lexemes.specs.declared.token.Tag.{Tag}
 use Rattle.tree_names.specs.Groups.{tag_group}
 use Rattle.tree_names.specs.declared.group.TagGroup.{TagGroup}
@@ -10,7 +10,7 @@ use Rattle.rules_table.specs.Actions.{Action, act, break_out}
 use Rattle.rules_table.specs.ForeignContent.{foreign_start, is_by_mode}
 use Rattle.rules_table.specs.Rows.{Row, after, again, asks, done}
 use Rattle.rules_table.specs.Rule.{broken_out_row, foreign_end, foreign_row, rule}
-use Rattle.rules_table.specs.State.{Mark, State, finish, start}
+use Rattle.rules_table.specs.State.{TreeToken, State, finish, start}
 use Rattle.rules_table.specs.Table.{end_row, row, start_row}
 use Rattle.tree_predicates.specs.Foreign.{breaks_out}
 
@@ -20,7 +20,7 @@ after_one handle action (done actions) s = refl
 after_one handle action (asks ask actions) s = refl
 after_one handle action (again actions) s = refl
 
-broken : {H : Type 0} → (handle : ℕ → H) (mark : Mark) (s : State) →
+broken : {H : Type 0} → (handle : ℕ → H) (mark : TreeToken) (s : State) →
     outcome handle (row (act break_out s).mode mark (act break_out s)) (act break_out s)
     ≡ outcome handle (broken_out_row mark s) s
 unfolding act

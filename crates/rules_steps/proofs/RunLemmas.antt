@@ -1,7 +1,6 @@
 -- A run in front of a text, and what is after it.
-use Rattle.std.proofs.Common.{◌≡◌, ℕ, ◌<◌, ◌≤◌, suc, Bool, true, false, not, if◌then◌else◌, List, [], ◌∷◌, ◌++◌, length}
-use Rattle.std.proofs.Common.{inl, inr, refl, sym, ap, ◌∙◌, arith, subst}
-use Rattle.std.proofs.Common.{◌&&◌}
+use Rattle.std.proofs.Common.{◌≡◌, ◌<◌, ◌≤◌, if◌then◌else◌, [], ◌∷◌, ◌++◌, ◌∙◌, ◌&&◌, Bool, List, ap, arith, false, inl}
+use Rattle.std.proofs.Common.{inr, length, not, refl, subst, suc, sym, true, ℕ}
 use Rattle.std.specs.List.{list_all}
 use Rattle.tree_forest.specs.Orders.{IsIn}
 use Rattle.token_grammar.specs.Slices.{first_passes, front_while, rest_while}

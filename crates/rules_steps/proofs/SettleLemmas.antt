@@ -12,20 +12,20 @@ use Rattle.rules_table.specs.Rank.{rank}
 use Rattle.rules_table.specs.Rows.{Row, again, asks, done}
 use Rattle.rules_table.specs.Rule.{rule}
 use Rattle.rules_table.specs.Settling.{Ready, given_by, taken}
-use Rattle.rules_table.specs.State.{Mark, State}
+use Rattle.rules_table.specs.State.{TreeToken, State}
 use Rattle.rules_steps.specs.Steps.{settled_as}
 
 abbrev pub Comes : Type 0
-Comes = (mark : Mark) (s : State) → Ready s → taken mark s ≡ given_by (rule mark s) s (taken mark)
+Comes = (mark : TreeToken) (s : State) → Ready s → taken mark s ≡ given_by (rule mark s) s (taken mark)
 
 abbrev pub Falling : Type 0
-Falling = (mark : Mark) (s : State) → Ready s → Falls mark s (rule mark s)
+Falling = (mark : TreeToken) (s : State) → Ready s → Falls mark s (rule mark s)
 
 abbrev state_in : {H : Type 0} → State → Outcome H → State
 state_in other (finished answer s) = s
 state_in other (goes_on s) = s
 
-finished_by : {H : Type 0} → (handle : ℕ → H) → Comes → (mark : Mark) (s t : State) (answer : TokenSinkResult H)
+finished_by : {H : Type 0} → (handle : ℕ → H) → Comes → (mark : TreeToken) (s t : State) (answer : TokenSinkResult H)
     (r : Row) → Ready s → rule mark s ≡ r → finished answer t ≡ outcome handle r s →
     finished answer t ≡ settled_as handle (taken mark s)
 finished_by handle comes mark s t answer (done actions) ready is e =
@@ -34,18 +34,18 @@ finished_by handle comes mark s t answer (asks ask actions) ready is e =
     e ∙ sym (ap (settled_as handle) (comes mark s ready ∙ ap (λ r. given_by r s (taken mark)) is))
 finished_by handle comes mark s t answer (again actions) ready is e = absurd (cc)
 
-pub is_finished : {H : Type 0} → (handle : ℕ → H) → Comes → (mark : Mark) (s t : State)
+pub is_finished : {H : Type 0} → (handle : ℕ → H) → Comes → (mark : TreeToken) (s t : State)
     (answer : TokenSinkResult H) → Ready s → finished answer t ≡ outcome handle (rule mark s) s →
     finished answer t ≡ settled_as handle (taken mark s)
 is_finished handle comes mark s t answer ready e =
     finished_by handle comes mark s t answer (rule mark s) ready refl e
 
 -- what holds where it is handed on
-pub record IsHandedOn (mark : Mark) (s t : State) : Type 0 where
+pub record IsHandedOn (mark : TreeToken) (s t : State) : Type 0 where
   pub same : taken mark t ≡ taken mark s
   pub less : rank mark t < rank mark s
 
-handed_by : {H : Type 0} → (handle : ℕ → H) → Comes → Falling → (mark : Mark) (s t : State) (r : Row) → Ready s →
+handed_by : {H : Type 0} → (handle : ℕ → H) → Comes → Falling → (mark : TreeToken) (s t : State) (r : Row) → Ready s →
     rule mark s ≡ r → goes_on t ≡ outcome handle r s → IsHandedOn mark s t
 handed_by handle comes falls mark s t (done actions) ready is e = absurd (cc)
 handed_by handle comes falls mark s t (asks ask actions) ready is e = absurd (cc)
@@ -57,13 +57,13 @@ handed_by handle comes falls mark s t (again actions) ready is e =
       less = subst (λ u. rank mark u < rank mark s) (sym there) fall;
     }
 
-pub is_handed_on : {H : Type 0} → (handle : ℕ → H) → Comes → Falling → (mark : Mark) (s t : State) → Ready s →
+pub is_handed_on : {H : Type 0} → (handle : ℕ → H) → Comes → Falling → (mark : TreeToken) (s t : State) → Ready s →
     goes_on t ≡ outcome handle (rule mark s) s → IsHandedOn mark s t
 is_handed_on handle comes falls mark s t ready e =
     handed_by handle comes falls mark s t (rule mark s) ready refl e
 
 -- the same with what held when the loop began
-pub is_settled : {H : Type 0} → (handle : ℕ → H) → Comes → (mark : Mark) (first s t : State)
+pub is_settled : {H : Type 0} → (handle : ℕ → H) → Comes → (mark : TreeToken) (first s t : State)
     (answer : TokenSinkResult H) → Ready s → taken mark s ≡ taken mark first →
     finished answer t ≡ outcome handle (rule mark s) s → finished answer t ≡ settled_as handle (taken mark first)
 is_settled handle comes mark first s t answer ready same e =

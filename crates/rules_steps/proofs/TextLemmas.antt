@@ -1,6 +1,6 @@
 -- How a mode takes runs of text: what each call makes, as a law of runs says it.
-use Rattle.std.proofs.Common.{◌≡◌, ℕ, ◌<◌, Bool, true, false, ◌&&◌, List, [], ◌∷◌, ◌++◌, fold, length}
-use Rattle.std.proofs.Common.{arith, chars, refl, sym, ap, ◌∙◌, subst}
+use Rattle.std.proofs.Common.{◌≡◌, ◌<◌, ◌&&◌, [], ◌∷◌, ◌++◌, ◌∙◌, Bool, List, ap, arith, chars, false, fold, length}
+use Rattle.std.proofs.Common.{refl, subst, sym, true, ℕ}
 use Rattle.std.proofs.lemmas.Str.{chars-nil}
 use Rattle.token_grammar.specs.Slices.{first_passes, front_while, rest_while}
 use Rattle.html_tree_state.specs.Insertions.{said}
@@ -10,35 +10,35 @@ use Rattle.rules_actions.specs.declared.flow.Flow.TheVariants as flows
 use Rattle.rules_table.specs.Actions.{Action, act, act_all, keep_pending, reconstruct, refuse_frameset, say}
 use Rattle.rules_table.specs.Asking.{all_are}
 use Rattle.rules_table.specs.ForeignContent.{is_by_mode}
-use Rattle.rules_table.specs.Rows.{TextRow, dropped, for_null, is_white_space, kept, said_behind, then_again}
+use Rattle.rules_table.specs.Rows.{TextRow, dropped, for_null, is_white_space, kept, said_after, then_again}
 use Rattle.rules_table.specs.State.{State, character}
 use Rattle.rules_table.specs.Table.{text_row}
 use Rattle.rules_table_laws.specs.TextClasses.{AreByMode, AreOfClass, IsHandedOn, IsOfClass}
-use Rattle.rules_table_laws.specs.TextRuns.{IsCalm, IsPassedOn, TextRuns, told, took}
+use Rattle.rules_table_laws.specs.TextRuns.{IsCalm, IsPassedOn, TextRuns, emitted, took}
 use Rattle.rules_table_laws.specs.declared.text_class.TextClass.{TextClass}
 use Rattle.rules_table_laws.specs.declared.text_class.TextClass.TheVariants as classes
 use Rattle.rules_steps.specs.Runs.{is_alike}
 use Rattle.rules_steps.proofs.RunLemmas.{alike_is, front_passes, rest_less, took_on, whole}
 
 -- what is emitted, by whether it is white space
-abbrev told_by : Bool → List ℕ → State → State
-told_by is_space cs s = record s { frameset_ok = is_space && s.frameset_ok; tree = said cs s.tree }
+abbrev emitted_by : Bool → List ℕ → State → State
+emitted_by is_space cs s = record s { frameset_ok = is_space && s.frameset_ok; tree = said cs s.tree }
 
-pub told_space : (text cs : List ℕ) (s t : State) → text ≡ cs → t ≡ act (say text) s →
-    true ≡ all_are is_white_space cs → t ≡ told cs s
+pub emitted_space : (text cs : List ℕ) (s t : State) → text ≡ cs → t ≡ act (say text) s →
+    true ≡ all_are is_white_space cs → t ≡ emitted cs s
 unfolding act
-told_space text cs s t copied e is =
-    e ∙ (ap (λ (l : List ℕ). act (say l) s) copied ∙ ap (λ x. told_by x cs s) is)
+emitted_space text cs s t copied e is =
+    e ∙ (ap (λ (l : List ℕ). act (say l) s) copied ∙ ap (λ x. emitted_by x cs s) is)
 
-pub told_other : (text cs : List ℕ) (s t u : State) → text ≡ cs → t ≡ act (say text) s →
-    u ≡ act refuse_frameset t → false ≡ all_are is_white_space cs → u ≡ told cs s
+pub emitted_other : (text cs : List ℕ) (s t u : State) → text ≡ cs → t ≡ act (say text) s →
+    u ≡ act refuse_frameset t → false ≡ all_are is_white_space cs → u ≡ emitted cs s
 unfolding act
-told_other text cs s t u copied e f is =
-    f ∙ (ap (act refuse_frameset) (e ∙ ap (λ (l : List ℕ). act (say l) s) copied) ∙ ap (λ x. told_by x cs s) is)
+emitted_other text cs s t u copied e f is =
+    f ∙ (ap (act refuse_frameset) (e ∙ ap (λ (l : List ℕ). act (say l) s) copied) ∙ ap (λ x. emitted_by x cs s) is)
 
 -- no call changes whether a line feed is left out
-pub flag_told : (cs : List ℕ) (s t : State) → t ≡ told cs s → s.skip_lf ≡ false → t.skip_lf ≡ false
-flag_told cs s t e flag = ap (λ (u : State). u.skip_lf) e ∙ flag
+pub flag_emitted : (cs : List ℕ) (s t : State) → t ≡ emitted cs s → s.skip_lf ≡ false → t.skip_lf ≡ false
+flag_emitted cs s t e flag = ap (λ (u : State). u.skip_lf) e ∙ flag
 
 pub flag_said : (cs : List ℕ) (s t : State) → t ≡ act (say cs) s → s.skip_lf ≡ false → t.skip_lf ≡ false
 unfolding act
@@ -76,7 +76,7 @@ given_by_row : {H : Type 0} (handle : ℕ → H) (flow : Flow H) → TextRuns �
     (row : TextRow) → text_row s.mode is_space s ≡ row → IsCalm s → AreByMode s → IsHandedOn row →
     came_to flow t ≡ outcome handle (for_null row) s → IsPassedOn is_space s t
 given_by_row handle flow runs is_space s t dropped is calm here h e = absurd h
-given_by_row handle flow runs is_space s t (said_behind actions) is calm here h e = absurd h
+given_by_row handle flow runs is_space s t (said_after actions) is calm here h e = absurd h
 given_by_row handle flow runs is_space s t kept is calm here h e = absurd h
 given_by_row handle flow runs is_space s t (then_again actions) is calm here h e =
     let there : t ≡ act_all actions s = given_by_flow handle flow actions s t e in
@@ -112,10 +112,10 @@ same_of is_space (c ∷ cs) s t first same = same c cs (alike_is is_space c firs
 
 -- a run in the body is not empty
 pub took_in_body : TextRuns → (s t u : State) (cs : List ℕ) → IsCalm s → AreByMode s →
-    AreOfClass classes.InBody cs s → ¬ (cs ≡ []) → t ≡ act reconstruct s → u ≡ told cs t → u ≡ took cs s
+    AreOfClass classes.InBody cs s → ¬ (cs ≡ []) → t ≡ act reconstruct s → u ≡ emitted cs t → u ≡ took cs s
 took_in_body runs s t u [] calm here of some e f = absurd (some refl)
 took_in_body runs s t u (c ∷ cs) calm here of some e f =
-    f ∙ (ap (told (c ∷ cs)) e ∙ sym (runs.in_body s c cs calm here of))
+    f ∙ (ap (emitted (c ∷ cs)) e ∙ sym (runs.in_body s c cs calm here of))
 
 -- a text whose first character is known is not empty
 pub first_less : (p : ℕ → Bool) (cs : List ℕ) → first_passes p cs ≡ true → 0 < length cs
@@ -139,7 +139,7 @@ as_inserted runs class text cs s t is calm here all copied e =
     ∙ sym (runs.inserted s cs calm here (of_class class classes.Inserted cs s is all)))
 
 pub as_in_body : TextRuns → (class : TextClass) (cs : List ℕ) (s t u : State) → class ≡ classes.InBody → IsCalm s →
-    AreByMode s → AreOfClass class cs s → ¬ (cs ≡ []) → t ≡ act reconstruct s → u ≡ told cs t → u ≡ took cs s
+    AreByMode s → AreOfClass class cs s → ¬ (cs ≡ []) → t ≡ act reconstruct s → u ≡ emitted cs t → u ≡ took cs s
 as_in_body runs class cs s t u is calm here all some e f =
     took_in_body runs s t u cs calm here (of_class class classes.InBody cs s is all) some e f
 
@@ -155,13 +155,13 @@ pub front_all : (class : TextClass) (is_space : Bool) (cs front : List ℕ) (s :
 front_all class is_space cs front s f of =
     subst (λ (l : List ℕ). AreOfClass class l s) (sym f) (front_class class is_space cs s of)
 
-pub behind_less : (p : ℕ → Bool) (cs rest : List ℕ) → rest ≡ rest_while p cs → first_passes p cs ≡ true →
+pub after_less : (p : ℕ → Bool) (cs rest : List ℕ) → rest ≡ rest_while p cs → first_passes p cs ≡ true →
     length rest < length cs
-behind_less p cs rest r first = subst (λ (l : List ℕ). length l < length cs) (sym r) (rest_less p cs first)
+after_less p cs rest r first = subst (λ (l : List ℕ). length l < length cs) (sym r) (rest_less p cs first)
 
 -- where the rules for foreign content take text
 pub as_foreign : TextRuns → (cs : List ℕ) (s t : State) (here : Bool) → IsCalm s →
-    ((c : ℕ) → here ≡ is_by_mode (character c) s) → here ≡ false → t ≡ told cs s → t ≡ took cs s
+    ((c : ℕ) → here ≡ is_by_mode (character c) s) → here ≡ false → t ≡ emitted cs s → t ≡ took cs s
 as_foreign runs cs s t here calm is not_here e = e ∙ sym (runs.foreign s cs calm (λ c. sym (is c) ∙ not_here))
 
 -- where nothing is left

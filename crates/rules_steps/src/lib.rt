@@ -8,7 +8,7 @@
 //! - `take_tag`, `take_comment`, `take_doctype`, `take_null`, `take_page_end`: the state and the answer are what
 //!   the mark comes to by the rule table (`taken`): the rules of the modes that stand in turn, or those for foreign
 //!   content, take it until one does not hand it on
-//! - `take_text`: the state is that of all characters taken one by one (the code emits the sink a run that a mode
+//! - `take_text`: the state is that of all characters taken one by one (the code gives the sink a run that a mode
 //!   treats alike at once, and gives it the text as it came where all of it is such a run; that is read in the code
 //!   alone)
 //! - `TreeBuilder::new`: the state before the first token; it is ready
@@ -27,15 +27,15 @@
 //!   it answers `Failed`. It has failed exactly where a call was refused, and may be called again whatever it
 //!   answered
 //! - `has_failed`: whether a call was refused
-//! - `tells_twice`, `ends_twice`: for every sink of trees: the call after a refused one can be made, and is
+//! - `emits_twice`, `ends_twice`: for every sink of trees: the call after a refused one can be made, and is
 //!   refused as `Failed`
 //! - `adjusted_current_node_present_but_not_in_html_namespace`: as the table says
 //! - laws of `TreeBuilder` as a sink: `rules_table_laws`'s: texts joined, an empty text changes nothing, an error ends
 //!   at most the rule of the line feed, what is welcome stays so
 //!
 //! Each is over any sink of trees, and so is every condition that the sink asks of its caller. Not pinned: that the
-//! builder emits its sink of popped elements and of lines, that it passes parse errors on, and that it emits none
-//! of its own.
+//! builder notifies its sink of popped elements and of lines, that it passes parse errors on, and that it passes on
+//! none of its own.
 #![tactic(auto)]
 
 mod others;

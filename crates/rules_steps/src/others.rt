@@ -4,12 +4,19 @@ ghost use Rattle.rules_actions.specs.Parsed.{state_of};
 ghost use Rattle.rules_table.specs.Settling.{Ready};
 ghost use Rattle.rules_table.specs.Table.{comment_row, doctype_row, end_of_file_row};
 
-use tree_forest::TreeSink;
 use html_lexemes::{Doctype, ParseFault, Text};
-use rules_head::{close_head, close_noscript, initial_comment, initial_doctype, initial_other, make_body, make_head, make_html};
-use rules_rest::{after_after_body_comment, after_after_body_end_of_file, after_after_frameset_comment, after_body_comment, after_body_end_of_file, end_of_file, frameset_end_of_file, text_mode_end_of_file};
-use rules_tables::in_table_text_other;
 use rules_actions::{Flow, Parse};
+use rules_head::{
+    close_head, close_noscript, initial_comment, initial_doctype, initial_other, make_body,
+    make_head, make_html,
+};
+use rules_rest::{
+    after_after_body_comment, after_after_body_end_of_file, after_after_frameset_comment,
+    after_body_comment, after_body_end_of_file, end_of_file, frameset_end_of_file,
+    text_mode_end_of_file,
+};
+use rules_tables::in_table_text_other;
+use tree_forest::TreeSink;
 use tree_predicates::InsertionMode;
 
 /// The end of the page.

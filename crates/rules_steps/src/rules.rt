@@ -3,21 +3,22 @@ ghost use Rattle.std.specs.Prelude.{◌≡◌};
 ghost use Rattle.tree_names.specs.Groups.{tag_group};
 ghost use Rattle.rules_actions.specs.Follows.{Follows};
 ghost use Rattle.rules_actions.specs.Parsed.{state_of};
-ghost use Rattle.rules_table.specs.Settling.{Ready};
+ghost use Rattle.rules_table.specs.Settling.{Ready, mark_by};
 ghost use Rattle.rules_table.specs.ForeignContent.{foreign_null};
 ghost use Rattle.rules_table.specs.Rule.{rule};
-ghost use Rattle.rules_table.specs.Settling.{mark_by};
 ghost use Rattle.rules_table.specs.State.{comment, doctype as doctype_mark, end_of_file, finish, null, start};
 ghost use Rattle.html_lexemes.specs.declared.token.TagKind.TheVariants.{EndTag, StartTag};
 
 use crate::others;
 use crate::tags::{end_tag, start_tag};
 use crate::text_rules::hand_text_on;
-use tree_forest::TreeSink;
 use html_lexemes::{Doctype, ParseFault, Tag, TagKind, Text};
-use rules_rest::{close_foreign_end, foreign_start, is_html_here, takes_start_here, takes_text_here};
-use tree_names::TagGroup;
 use rules_actions::{Flow, Parse};
+use rules_rest::{
+    close_foreign_end, foreign_start, is_html_here, takes_start_here, takes_text_here,
+};
+use tree_forest::TreeSink;
+use tree_names::TagGroup;
 use tree_predicates::breaks_out;
 
 /// A tag.

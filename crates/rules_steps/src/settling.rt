@@ -9,11 +9,11 @@ ghost use Rattle.rules_table.specs.State.{comment, doctype as doctype_mark, end_
 ghost use Rattle.rules_steps.specs.Steps.{settled_as};
 
 use crate::rules::{comment_rule, doctype_rule, null_rule, page_end_rule, tag_rule};
-use tree_forest::TreeSink;
 use html_lexemes::{Doctype, ParseFault, Tag, Text, TokenSinkResult};
-use tree_names::TagGroup;
 use rules_actions::{Flow, Parse};
 use rules_table_laws::{a_mark_comes_to_what_its_rule_gives, the_rank_falls};
+use tree_forest::TreeSink;
+use tree_names::TagGroup;
 
 /// A tag.
 pub fn take_tag<S: TreeSink>(

@@ -6,15 +6,27 @@ ghost use Rattle.rules_actions.specs.Parsed.{state_of};
 ghost use Rattle.rules_table.specs.Settling.{Ready};
 ghost use Rattle.rules_table.specs.Table.{end_row, start_row};
 
-use tree_forest::TreeSink;
 use html_lexemes::{ParseFault, Tag};
-use rules_head::{after_head_end, after_head_start, before_head_end, before_head_start, before_html_end, before_html_start, in_head_end, in_head_noscript_end, in_head_noscript_start, in_head_start, initial_other};
-use rules_body::{in_body_end, in_body_start};
-use rules_rest::{after_after_body_end, after_body_end, after_body_start, after_frameset_end, after_frameset_start, in_frameset_end, in_frameset_start, in_template_end, in_template_start, text_mode_end};
-use rules_tables::{in_caption_end, in_caption_start, in_cell_end, in_cell_start, in_column_group_end, in_column_group_start, in_row_end, in_row_start, in_table_body_end, in_table_body_start, in_table_end, in_table_start, in_table_text_other};
-use tree_names::TagGroup;
 use rules_actions::{Flow, Parse};
+use rules_body::{in_body_end, in_body_start};
+use rules_head::{
+    after_head_end, after_head_start, before_head_end, before_head_start, before_html_end,
+    before_html_start, in_head_end, in_head_noscript_end, in_head_noscript_start, in_head_start,
+    initial_other,
+};
+use rules_rest::{
+    after_after_body_end, after_body_end, after_body_start, after_frameset_end,
+    after_frameset_start, in_frameset_end, in_frameset_start, in_template_end, in_template_start,
+    text_mode_end,
+};
 use rules_table::Target;
+use rules_tables::{
+    in_caption_end, in_caption_start, in_cell_end, in_cell_start, in_column_group_end,
+    in_column_group_start, in_row_end, in_row_start, in_table_body_end, in_table_body_start,
+    in_table_end, in_table_start, in_table_text_other,
+};
+use tree_forest::TreeSink;
+use tree_names::TagGroup;
 use tree_predicates::InsertionMode;
 
 /// A start tag.

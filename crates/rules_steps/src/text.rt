@@ -9,17 +9,17 @@ ghost use Rattle.rules_table.specs.Settling.{Ready};
 ghost use Rattle.rules_table.specs.Table.{text_row};
 ghost use Rattle.rules_steps.specs.Runs.{is_alike};
 ghost use Rattle.rules_table_laws.specs.TextClasses.{AreByMode, AreOfClass, IsHandedOn, IsSettled};
-ghost use Rattle.rules_table_laws.specs.TextRuns.{IsCalm, IsPassedOn, told, took};
+ghost use Rattle.rules_table_laws.specs.TextRuns.{IsCalm, IsPassedOn, emitted, took};
 ghost use Rattle.rules_table_laws.specs.declared.text_class.TextClass.TheVariants.{HandedOn};
 
 use crate::runs::{are_white_space, first_is_white_space, is_without_characters, split_alike};
 use crate::text_classes::{is_handed_on_class, is_same_class, text_class};
 use crate::text_rules::hand_text_on;
-use tree_forest::TreeSink;
 use html_lexemes::{ParseFault, Text};
-use rules_rest::takes_text_here;
 use rules_actions::Parse;
+use rules_rest::takes_text_here;
 use rules_table_laws::{TextClass, runs_of_text};
+use tree_forest::TreeSink;
 
 /// Characters of text, where no line feed is left out. Where the mode treats all of them alike they become a node's
 /// text, or a part of one, as they are.
@@ -53,7 +53,7 @@ fn take_settled<S: TreeSink>(
 {
     runs_of_text();
     if !takes_text_here(page) {
-        say_told(page, text)?;
+        say_emitted(page, text)?;
         return Ok(());
     }
     let class = text_class(page, is_space);
@@ -115,7 +115,7 @@ fn take_front<'a, S: TreeSink>(
     runs_of_text();
     let alloc = *page.kept.template_modes.allocator();
     if !takes_text_here(page) {
-        say_told(page, Text::from_str(alloc, text)?)?;
+        say_emitted(page, Text::from_str(alloc, text)?)?;
         return Ok("");
     }
     let class = text_class(page, is_space);
@@ -123,9 +123,9 @@ fn take_front<'a, S: TreeSink>(
         say_as(page, class, Text::from_str(alloc, text)?)?;
         return Ok("");
     }
-    let (run, behind) = split_alike(text, is_space);
+    let (run, trailing) = split_alike(text, is_space);
     say_as(page, class, Text::from_str(alloc, run)?)?;
-    Ok(behind)
+    Ok(trailing)
 }
 
 // text goes from mode to mode, up to one that takes it
@@ -171,9 +171,9 @@ fn is_handed_on<S: TreeSink>(page: &Parse<S>, is_space: bool) -> bool
 }
 
 // characters are inserted; others than white space refuse framesets
-fn say_told<S: TreeSink>(page: &mut Parse<S>, run: Text) -> Result<(), ParseFault>
+fn say_emitted<S: TreeSink>(page: &mut Parse<S>, run: Text) -> Result<(), ParseFault>
     requires ready { Ready (state_of S.view page.old) }
-    ensures seen { OnOk result (state_of S.view page.new ≡ told run (state_of S.view page.old)) }
+    ensures seen { OnOk result (state_of S.view page.new ≡ emitted run (state_of S.view page.old)) }
     ensures ready { OnOk result (Ready (state_of S.view page.new)) }
     ensures memory { IfErr result (λ e. e ≡ Memory) }
 {
@@ -211,7 +211,7 @@ fn say_as<S: TreeSink>(page: &mut Parse<S>, class: TextClass, run: Text) -> Resu
         }
         TextClass::InBody => {
             page.reconstruct()?;
-            say_told(page, run)?;
+            say_emitted(page, run)?;
             return Ok(());
         }
         TextClass::Kept => {

@@ -8,10 +8,10 @@ ghost use Rattle.rules_table.specs.Table.{text_row};
 ghost use Rattle.rules_table_laws.specs.TextClasses.{IsOfClass};
 ghost use Rattle.rules_table_laws.specs.declared.text_class.TextClass.TheVariants.{HandedOn};
 
-use tree_forest::TreeSink;
-use tree_names::ElementSet;
 use rules_actions::Parse;
 use rules_table_laws::TextClass;
+use tree_forest::TreeSink;
+use tree_names::ElementSet;
 use tree_predicates::InsertionMode;
 
 /// How the mode takes characters, all white space or none, by the rules for HTML.

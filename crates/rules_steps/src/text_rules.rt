@@ -7,12 +7,12 @@ ghost use Rattle.std.specs.Prelude.{false};
 ghost use Rattle.rules_table.specs.Rows.{for_null};
 ghost use Rattle.rules_table.specs.Table.{text_row};
 
-use tree_forest::TreeSink;
 use html_lexemes::ParseFault;
-use rules_rest::body_again;
-use rules_head::{close_head, close_noscript, initial_other, make_body, make_head, make_html};
-use rules_tables::{collect_text, past_column_group};
 use rules_actions::{Flow, Parse};
+use rules_head::{close_head, close_noscript, initial_other, make_body, make_head, make_html};
+use rules_rest::body_again;
+use rules_tables::{collect_text, past_column_group};
+use tree_forest::TreeSink;
 use tree_predicates::InsertionMode;
 
 /// Text, all white space or none, is handed on where the mode does not take it itself; so is NUL, as other text is.

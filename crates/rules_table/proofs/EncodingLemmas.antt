@@ -1,6 +1,6 @@
 -- Words, runs of characters and the search for a place, one character more at a time.
-use Rattle.std.proofs.Common.{◌≡◌, ℕ, Bool, true, false, cond, List, [], ◌∷◌, ◌++◌, length, drop, Some, None}
-use Rattle.std.proofs.Common.{option_map, eqb, IsUtf8, bytes_eq, chars, codes, refl, sym, ap, ◌∙◌}
+use Rattle.std.proofs.Common.{◌≡◌, [], ◌∷◌, ◌++◌, ◌∙◌, Bool, IsUtf8, List, None, Some, ap, bytes_eq, chars, codes, cond}
+use Rattle.std.proofs.Common.{drop, eqb, false, length, option_map, refl, sym, true, ℕ}
 use Rattle.std.proofs.lemmas.Bool.{and_from, and_parts, eq-eqb, eqb-true, false≢true, false_from_ne_true}
 use Rattle.std.proofs.lemmas.Slice.Eq.{bytes_eq-Decides}
 use Rattle.std.specs.Char.{to_ascii_lowercase}
@@ -8,7 +8,7 @@ use Rattle.std.specs.Option.{option_or}
 use Rattle.token_grammar.specs.Slices.{after, after_word, begins_word, cut}
 use Rattle.tree_predicates.specs.Attributes.{in_lower_case}
 use Rattle.tree_predicates.proofs.WordLemmas.{is_whole, word_chars}
-use Rattle.rules_table.specs.Encodings.{behind_charset, behind_first, slice_of, written_name}
+use Rattle.rules_table.specs.Encodings.{after_charset, after_first, slice_of, written_name}
 
 -- ---- a text in lower case beside a word
 
@@ -79,12 +79,12 @@ single_quoted c cs e = ap (λ q. written_name (q ∷ cs)) (sym e)
 
 -- ---- the first place
 
-pub place_here : (cs : List ℕ) (c : ℕ) (later rest : List ℕ) → cs ≡ c ∷ later → Some rest ≡ behind_charset cs →
-    Some rest ≡ behind_first cs
-place_here cs c later rest e is = ap (λ o. option_or o (behind_first later)) (is ∙ ap behind_charset e)
-    ∙ ap behind_first (sym e)
+pub place_here : (cs : List ℕ) (c : ℕ) (later rest : List ℕ) → cs ≡ c ∷ later → Some rest ≡ after_charset cs →
+    Some rest ≡ after_first cs
+place_here cs c later rest e is = ap (λ o. option_or o (after_first later)) (is ∙ ap after_charset e)
+    ∙ ap after_first (sym e)
 
-pub place_later : (cs : List ℕ) (c : ℕ) (later : List ℕ) → cs ≡ c ∷ later → None ≡ behind_charset cs →
-    behind_first cs ≡ behind_first later
-place_later cs c later e is = ap behind_first e
-    ∙ ap (λ o. option_or o (behind_first later)) (sym (is ∙ ap behind_charset e))
+pub place_later : (cs : List ℕ) (c : ℕ) (later : List ℕ) → cs ≡ c ∷ later → None ≡ after_charset cs →
+    after_first cs ≡ after_first later
+place_later cs c later e is = ap after_first e
+    ∙ ap (λ o. option_or o (after_first later)) (sym (is ∙ ap after_charset e))

@@ -1,6 +1,6 @@
 -- Each action keeps what is ready so.
-use Rattle.std.proofs.Common.{◌≡◌, ℕ, ◌≤◌, Bool, true, false, if◌then◌else◌, List, [], ◌∷◌, Option, None, Some, refl}
-use Rattle.std.proofs.Common.{sym, ap, subst, ◌==◌, inl, inr, arith}
+use Rattle.std.proofs.Common.{◌≡◌, ◌≤◌, if◌then◌else◌, [], ◌∷◌, ◌==◌, Bool, List, None, Option, Some, ap, arith, false}
+use Rattle.std.proofs.Common.{inl, inr, refl, subst, sym, true, ℕ}
 use Rattle.std.proofs.lemmas.Bool.{eqb-true}
 use Rattle.tree_forest.specs.Forest.{Forest, Holds, IsElement, is_in, nodes}
 use Rattle.tree_forest.specs.Orders.{IsIn}
@@ -15,18 +15,16 @@ use Rattle.html_tree_state.specs.Sound.{Sound}
 use Rattle.html_tree_state.specs.Words.{IsKept, Keeps, Words}
 use Rattle.tree_names.specs.Sets.{Elements, is_one_of}
 use Rattle.tree_names.specs.TagSets.{formatting}
-use Rattle.rules_table.specs.Actions.{Action, act, add_attributes, adopt, adopt_in_scope}
-use Rattle.rules_table.specs.Actions.{adopted_in_scope, append_doctype, clear_to_marker, close_item}
-use Rattle.rules_table.specs.Actions.{break_out, close_foreign, close_other, close_p, comment_to_document}
-use Rattle.rules_table.specs.Actions.{comment_to_root, forget_form}
-use Rattle.rules_table.specs.Actions.{forget_pending, foster, given_attributes, go_back, go_to, hold_mode}
-use Rattle.rules_table.specs.Actions.{imply_but, in_html, insert, insert_comment, insert_foreign}
-use Rattle.rules_table.specs.Actions.{insert_formatting, insert_named, insert_void, inserted_and_listed}
-use Rattle.rules_table.specs.Actions.{inserted_foreign, inserted_into, inserted_void_into, is_current}
-use Rattle.rules_table.specs.Actions.{keep_form, keep_head, keep_pending, pop, pop_down_to, pop_if}
-use Rattle.rules_table.specs.Actions.{pop_template_mode, pop_to, popped_if, push_template_mode, put_marker}
-use Rattle.rules_table.specs.Actions.{reconstruct, refuse_frameset, reset, say, set_quirks, skip_next_line_feed}
-use Rattle.rules_table.specs.Actions.{take_off, take_out, unlist}
+use Rattle.rules_table.specs.Actions.{Action, act, add_attributes, adopt, adopt_in_scope, adopted_in_scope}
+use Rattle.rules_table.specs.Actions.{append_doctype, break_out, clear_to_marker, close_foreign, close_item}
+use Rattle.rules_table.specs.Actions.{close_other, close_p, comment_to_document, comment_to_root, forget_form}
+use Rattle.rules_table.specs.Actions.{forget_pending, foster, given_attributes, go_back, go_to, hold_mode, imply_but}
+use Rattle.rules_table.specs.Actions.{in_html, insert, insert_comment, insert_foreign, insert_formatting, insert_named}
+use Rattle.rules_table.specs.Actions.{insert_void, inserted_and_listed, inserted_foreign, inserted_into}
+use Rattle.rules_table.specs.Actions.{inserted_void_into, is_current, keep_form, keep_head, keep_pending, pop}
+use Rattle.rules_table.specs.Actions.{pop_down_to, pop_if, pop_template_mode, pop_to, popped_if, push_template_mode}
+use Rattle.rules_table.specs.Actions.{put_marker, reconstruct, refuse_frameset, reset, say, set_quirks}
+use Rattle.rules_table.specs.Actions.{skip_next_line_feed, take_off, take_out, unlist}
 use Rattle.rules_table.specs.Settling.{Ready}
 use Rattle.rules_table.specs.State.{State}
 use Rattle.rules_table.specs.declared.target.Target.TheVariants as targets

@@ -1,6 +1,5 @@
 -- What rules do, each with what it makes of the state.
-use Rattle.std.specs.Prelude.{ℕ, Bool, false, true, List, [], ◌∷◌, ◌++◌, Option, None, Some}
-use Rattle.std.specs.Prelude.{if◌then◌else◌, option_map}
+use Rattle.std.specs.Prelude.{[], ◌∷◌, ◌++◌, if◌then◌else◌, Bool, List, None, Option, Some, false, option_map, true, ℕ}
 use Rattle.tree_forest.specs.Forest.{is_in, name_of}
 use Rattle.tree_forest.specs.Places.{below}
 use Rattle.tree_forest.specs.declared.sink.QuirksMode.{QuirksMode}
@@ -15,8 +14,7 @@ use Rattle.html_tree_state.specs.Adoption.{adoption, closed_by_other_end, out_of
 use Rattle.html_tree_state.specs.Building.{Building}
 use Rattle.html_tree_state.specs.Foreign.{broken_out, closed_by_foreign_end}
 use Rattle.html_tree_state.specs.Formatting.{cleared, inserted_for, inserted_formatting, marked, name_for}
-use Rattle.html_tree_state.specs.Formatting.{reconstructed}
-use Rattle.html_tree_state.specs.Formatting.{unlisted}
+use Rattle.html_tree_state.specs.Formatting.{reconstructed, unlisted}
 use Rattle.html_tree_state.specs.Insertions.{commented_at, here, inserted, inserted_at, inserted_void, root_of, said}
 use Rattle.html_tree_state.specs.Insertions.{with_attributes_of, with_doctype_of, with_element}
 use Rattle.html_tree_state.specs.Names.{names_of}

@@ -7,7 +7,7 @@ use Rattle.tree_names.specs.declared.group.TagGroup.TheVariants as groups
 use Rattle.rules_table.specs.Actions.{Action, at_place, go_to, insert, insert_named, into_head, refuse_frameset}
 use Rattle.rules_table.specs.HtmlTag.{html_start}
 use Rattle.rules_table.specs.InHead.{in_head_end, in_head_start}
-use Rattle.rules_table.specs.Rows.{Row, TextRow, again, done, ignored, said_behind, then_again}
+use Rattle.rules_table.specs.Rows.{Row, TextRow, again, done, ignored, said_after, then_again}
 use Rattle.rules_table.specs.State.{State}
 use Rattle.tree_predicates.specs.declared.modes.InsertionMode.TheVariants.{InBody, InFrameset}
 
@@ -16,7 +16,7 @@ abbrev pub body_made : List Action
 body_made = insert_named (codes "body") ∷ go_to InBody ∷ []
 
 abbrev pub after_head_text : (is_space : Bool) → TextRow
-after_head_text true = said_behind []
+after_head_text true = said_after []
 after_head_text false = then_again body_made
 
 abbrev pub after_head_start : TagGroup → Tag → State → Row

@@ -1,6 +1,5 @@
 -- What rules ask of the state.
-use Rattle.std.specs.Prelude.{ℕ, Bool, false, true, ◌&&◌, not, List, [], ◌∷◌, Option, None, Some, codes}
-use Rattle.std.specs.Prelude.{if◌then◌else◌}
+use Rattle.std.specs.Prelude.{◌&&◌, [], ◌∷◌, if◌then◌else◌, Bool, List, None, Option, Some, codes, false, not, true, ℕ}
 use Rattle.tree_forest.specs.Forest.{is_in, name_of}
 use Rattle.tree_forest.specs.declared.sink.QuirksMode.{QuirksMode}
 use Rattle.tree_forest.specs.declared.sink.QuirksMode.TheVariants.{LimitedQuirks, NoQuirks, Quirks}

@@ -7,13 +7,13 @@ use Rattle.html_lexemes.specs.declared.names.QualName.{QualName}
 use Rattle.html_lexemes.specs.declared.token.Tag.{Tag}
 use Rattle.html_tree_state.specs.Foreign.{adjusted_current}
 use Rattle.rules_table.specs.Actions.{insert_foreign, is_text, refuse_frameset, say}
-use Rattle.rules_table.specs.Rows.{Row, TextRow, done, said_behind}
-use Rattle.rules_table.specs.State.{Mark, State, character, comment, doctype, end_of_file, finish, null, start}
+use Rattle.rules_table.specs.Rows.{Row, TextRow, done, said_after}
+use Rattle.rules_table.specs.State.{TreeToken, State, character, comment, doctype, end_of_file, finish, null, start}
 use Rattle.tree_predicates.specs.Foreign.{is_of_html, takes_start, takes_text}
 
 -- by the adjusted current node, and whether it is an `annotation-xml` whose contents are HTML: the rules for HTML take
 -- what is emitted
-abbrev pub takes : Mark → QualName → (is_point : Bool) → Bool
+abbrev pub takes : TreeToken → QualName → (is_point : Bool) → Bool
 takes (character c) name is_point = takes_text name is_point
 takes null name is_point = takes_text name is_point
 takes (comment cs) name is_point = is_of_html name.ns
@@ -22,7 +22,7 @@ takes (start t) name is_point = takes_start name is_point t.name
 takes (finish t) name is_point = is_of_html name.ns
 takes end_of_file name is_point = true
 
-abbrev pub is_taken_at : Mark → Forest → Option ℕ → Bool
+abbrev pub is_taken_at : TreeToken → Forest → Option ℕ → Bool
 is_taken_at mark f None = true
 is_taken_at mark f (Some n) = takes mark (name_of n f) (is_integration_point n f)
 
@@ -31,13 +31,13 @@ abbrev pub node_here : State → Option ℕ
 node_here s = adjusted_current s.context s.tree.stack
 
 -- in the mode "text" the current node is an element of HTML
-abbrev pub is_by_mode : Mark → State → Bool
+abbrev pub is_by_mode : TreeToken → State → Bool
 is_by_mode mark s = is_text s.mode || is_taken_at mark s.tree.forest (node_here s)
 
 -- the rules for foreign content
 abbrev pub foreign_text : (is_space : Bool) → TextRow
-foreign_text true = said_behind []
-foreign_text false = said_behind (refuse_frameset ∷ [])
+foreign_text true = said_after []
+foreign_text false = said_after (refuse_frameset ∷ [])
 
 -- U+FFFD
 abbrev pub foreign_null : Row

@@ -1,22 +1,21 @@
 -- The modes of framesets: "in frameset", "after frameset" and "after after frameset" (WHATWG HTML, 13.2.6.4.18,
 -- 13.2.6.4.19 and 13.2.6.4.21).
-use Rattle.std.specs.Prelude.{ℕ, Bool, false, true, List, [], ◌∷◌, codes, if◌then◌else◌}
+use Rattle.std.specs.Prelude.{[], ◌∷◌, if◌then◌else◌, Bool, List, codes, false, true, ℕ}
 use Rattle.html_lexemes.specs.declared.token.Tag.{Tag}
 use Rattle.tree_names.specs.declared.group.TagGroup.{TagGroup}
 use Rattle.tree_names.specs.declared.group.TagGroup.TheVariants as groups
-use Rattle.std.specs.Prelude.{ℕ}
 use Rattle.tree_names.specs.Wanted.{one}
-use Rattle.rules_table.specs.Actions.{at_place, comment_to_document, go_to, insert, insert_void, is_current}
-use Rattle.rules_table.specs.Actions.{is_known, pop}
+use Rattle.rules_table.specs.Actions.{at_place, comment_to_document, go_to, insert, insert_void, is_current, is_known}
+use Rattle.rules_table.specs.Actions.{pop}
 use Rattle.rules_table.specs.HtmlTag.{html_start}
 use Rattle.rules_table.specs.InBody.{in_body_text}
 use Rattle.rules_table.specs.InHead.{in_head_start}
-use Rattle.rules_table.specs.Rows.{Row, TextRow, done, dropped, ignored, said_behind, stopped}
+use Rattle.rules_table.specs.Rows.{Row, TextRow, done, dropped, ignored, said_after, stopped}
 use Rattle.rules_table.specs.State.{State}
 use Rattle.tree_predicates.specs.declared.modes.InsertionMode.TheVariants.{AfterAfterFrameset, AfterFrameset}
 
 abbrev pub frameset_text : (is_space : Bool) → TextRow
-frameset_text true = said_behind []
+frameset_text true = said_after []
 frameset_text false = dropped
 
 abbrev pub in_frameset_start : TagGroup → Tag → State → Row

@@ -14,12 +14,12 @@ use Rattle.rules_table.specs.InBodyBlocks.{frameset_start, heading_start, list_i
 use Rattle.rules_table.specs.InBodyBlocks.{preformatted_start, table_start}
 use Rattle.rules_table.specs.InBodyPhrases.{in_body_phrase}
 use Rattle.rules_table.specs.InHead.{in_head_start}
-use Rattle.rules_table.specs.Rows.{Row, TextRow, again, ignored, said_behind, stopped}
+use Rattle.rules_table.specs.Rows.{Row, TextRow, again, ignored, said_after, stopped}
 use Rattle.rules_table.specs.State.{State}
 
 abbrev pub in_body_text : (is_space : Bool) → TextRow
-in_body_text true = said_behind (reconstruct ∷ [])
-in_body_text false = said_behind (reconstruct ∷ refuse_frameset ∷ [])
+in_body_text true = said_after (reconstruct ∷ [])
+in_body_text false = said_after (reconstruct ∷ refuse_frameset ∷ [])
 
 abbrev pub in_body_start : TagGroup → Tag → State → Row
 in_body_start groups.Html t s = html_start t s

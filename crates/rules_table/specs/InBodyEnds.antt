@@ -5,8 +5,8 @@ use Rattle.tree_names.specs.ElementSets.{headings}
 use Rattle.tree_names.specs.Wanted.{one}
 use Rattle.tree_names.specs.declared.group.TagGroup.{TagGroup}
 use Rattle.tree_names.specs.declared.group.TagGroup.TheVariants as groups
-use Rattle.rules_table.specs.Actions.{adopt, bare, clear_to_marker, close_other, close_p, forget_form, go_to}
-use Rattle.rules_table.specs.Actions.{imply_but, insert_named, pop_to, take_off}
+use Rattle.rules_table.specs.Actions.{adopt, bare, clear_to_marker, close_other, close_p, forget_form, go_to, imply_but}
+use Rattle.rules_table.specs.Actions.{insert_named, pop_to, take_off}
 use Rattle.rules_table.specs.Asking.{has_template, in_button_scope, in_list_item_scope, in_scope, is_itself_in_scope}
 use Rattle.rules_table.specs.InBodyBlocks.{none}
 use Rattle.rules_table.specs.InBodyPhrases.{void_phrase_start}

@@ -22,13 +22,13 @@ abbrev pub formatting_start : Tag → Row
 formatting_start t = done (reconstruct ∷ insert_formatting t ∷ [])
 
 -- "a": one that is listed after the last marker is closed
-abbrev pub anchor_behind : Option ℕ → Tag → Row
-anchor_behind None t = formatting_start t
-anchor_behind (Some n) t =
+abbrev pub anchor_after : Option ℕ → Tag → Row
+anchor_after None t = formatting_start t
+anchor_after (Some n) t =
     done (adopt t.name ∷ unlist n ∷ take_off n ∷ reconstruct ∷ insert_formatting t ∷ [])
 
 abbrev pub anchor_start : Tag → State → Row
-anchor_start t s = anchor_behind (last_named t.name s.tree.formatting) t
+anchor_start t s = anchor_after (last_named t.name s.tree.formatting) t
 
 -- "nobr"
 abbrev pub no_break_start : Tag → Row

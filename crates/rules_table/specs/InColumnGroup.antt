@@ -9,7 +9,7 @@ use Rattle.rules_table.specs.Asking.{current_is}
 use Rattle.rules_table.specs.HtmlTag.{html_start}
 use Rattle.rules_table.specs.InBody.{in_body_end_of_file}
 use Rattle.rules_table.specs.InHead.{in_head_end, in_head_start}
-use Rattle.rules_table.specs.Rows.{Row, TextRow, again, done, dropped, ignored, said_behind, then_again}
+use Rattle.rules_table.specs.Rows.{Row, TextRow, again, done, dropped, ignored, said_after, then_again}
 use Rattle.rules_table.specs.State.{State}
 use Rattle.tree_predicates.specs.declared.modes.InsertionMode.TheVariants.{InTable}
 
@@ -25,7 +25,7 @@ abbrev pub past_column_group : State → Row
 past_column_group s = if is_in_column_group s then again column_group_closed else ignored
 
 abbrev pub in_column_group_text : (is_space : Bool) → State → TextRow
-in_column_group_text true s = said_behind []
+in_column_group_text true s = said_after []
 in_column_group_text false s = if is_in_column_group s then then_again column_group_closed else dropped
 
 abbrev pub in_column_group_start : TagGroup → Tag → State → Row

@@ -8,12 +8,11 @@ use Rattle.tree_names.specs.Sets.{html_elements}
 use Rattle.tree_names.specs.Wanted.{one}
 use Rattle.tree_names.specs.declared.group.TagGroup.{TagGroup}
 use Rattle.tree_names.specs.declared.group.TagGroup.TheVariants as groups
-use Rattle.rules_table.specs.Actions.{Action, clear_to_marker, go_to, imply_but, insert, insert_void}
-use Rattle.rules_table.specs.Actions.{pop, pop_template_mode, pop_to, push_template_mode, put_marker}
-use Rattle.rules_table.specs.Actions.{refuse_frameset, reset}
+use Rattle.rules_table.specs.Actions.{Action, clear_to_marker, go_to, imply_but, insert, insert_void, pop}
+use Rattle.rules_table.specs.Actions.{pop_template_mode, pop_to, push_template_mode, put_marker, refuse_frameset, reset}
 use Rattle.rules_table.specs.Asking.{has_template}
 use Rattle.rules_table.specs.HtmlTag.{html_start}
-use Rattle.rules_table.specs.Rows.{Row, TextRow, again, asks, done, ignored, reads_raw, said_behind, then_again}
+use Rattle.rules_table.specs.Rows.{Row, TextRow, again, asks, done, ignored, reads_raw, said_after, then_again}
 use Rattle.rules_table.specs.declared.target.Target.{Target}
 use Rattle.rules_table.specs.State.{State, encoding}
 use Rattle.tree_predicates.specs.declared.modes.InsertionMode.TheVariants.{AfterHead, InHeadNoscript, InTemplate}
@@ -23,7 +22,7 @@ abbrev pub head_closed : List Action
 head_closed = pop ∷ go_to AfterHead ∷ []
 
 abbrev pub in_head_text : (is_space : Bool) → TextRow
-in_head_text true = said_behind []
+in_head_text true = said_after []
 in_head_text false = then_again head_closed
 
 -- a `meta` that names an encoding asks for a look at it

@@ -6,8 +6,8 @@ use Rattle.tree_names.specs.declared.group.TagGroup.TheVariants as groups
 use Rattle.tree_names.specs.ElementSets.{table_context}
 use Rattle.tree_names.specs.Wanted.{one}
 use Rattle.rules_table.specs.Actions.{Action, at_place, forget_pending, foster, go_back, go_to, hold_mode, insert}
-use Rattle.rules_table.specs.Actions.{insert_named, insert_void, keep_form, pop, pop_down_to, pop_to, put_marker}
-use Rattle.rules_table.specs.Actions.{reconstruct, refuse_frameset, reset, say}
+use Rattle.rules_table.specs.Actions.{insert_named, insert_void, is_known, keep_form, pop, pop_down_to, pop_to}
+use Rattle.rules_table.specs.Actions.{put_marker, reconstruct, refuse_frameset, reset, say}
 use Rattle.rules_table.specs.Asking.{all_are, collects_text, has_template, in_table_scope}
 use Rattle.rules_table.specs.InBody.{in_body_end_of_file, in_body_start, in_body_text}
 use Rattle.rules_table.specs.InBodyEnds.{in_body_end}
@@ -17,7 +17,6 @@ use Rattle.rules_table.specs.State.{State}
 use Rattle.tree_predicates.specs.Attributes.{is_hidden}
 use Rattle.tree_predicates.specs.declared.modes.InsertionMode.TheVariants.{InCaption, InColumnGroup, InTableBody}
 use Rattle.tree_predicates.specs.declared.modes.InsertionMode.TheVariants.{InTableText}
-use Rattle.rules_table.specs.Actions.{is_known}
 
 -- "clear the stack back to a table context"
 abbrev pub clear_to_table : Action

@@ -6,7 +6,7 @@ use Rattle.tree_names.specs.Sets.{Elements, html_elements, is_element_of}
 use Rattle.tree_names.specs.Groups.{tag_group}
 use Rattle.tree_names.specs.declared.group.TagGroup.{TagGroup}
 use Rattle.tree_names.specs.declared.group.TagGroup.TheVariants as groups
-use Rattle.rules_table.specs.State.{Mark, State, character, comment, doctype, end_of_file, finish, null, start}
+use Rattle.rules_table.specs.State.{TreeToken, State, character, comment, doctype, end_of_file, finish, null, start}
 use Rattle.tree_predicates.specs.declared.modes.InsertionMode.{InsertionMode}
 use Rattle.tree_predicates.specs.declared.modes.InsertionMode.TheVariants as modes
 
@@ -60,7 +60,7 @@ abbrev pub end_place : TagGroup → InsertionMode → ℕ
 end_place groups.Html modes.AfterBody = 2
 end_place group mode = usual_place mode
 
-abbrev pub place : Mark → InsertionMode → ℕ
+abbrev pub place : TreeToken → InsertionMode → ℕ
 place (character c) mode = character_place mode
 place null mode = character_place mode
 place (comment cs) mode = usual_place mode
@@ -69,5 +69,5 @@ place (start t) mode = start_place (tag_group t.name) mode
 place (finish t) mode = end_place (tag_group t.name) mode
 place end_of_file mode = usual_place mode
 
-abbrev pub rank : Mark → State → ℕ
+abbrev pub rank : TreeToken → State → ℕ
 rank mark s = 16 * how_many s.tree.forest s.tree.stack + place mark s.mode

@@ -41,20 +41,20 @@ fostered (again actions) = again (between_fosters actions)
 -- the mode that stands after some actions.
 pub data TextRow : Type 0 where
   dropped : TextRow
-  said_behind : List Action → TextRow
+  said_after : List Action → TextRow
   kept : TextRow
   then_again : List Action → TextRow
 
 abbrev pub for_character : ℕ → TextRow → Row
 for_character c dropped = ignored
-for_character c (said_behind actions) = done (actions ++ say (c ∷ []) ∷ [])
+for_character c (said_after actions) = done (actions ++ say (c ∷ []) ∷ [])
 for_character c kept = done (keep_pending c ∷ [])
 for_character c (then_again actions) = again actions
 
 -- NUL is taken as other text is, but is itself neither inserted nor kept
 abbrev pub for_null : TextRow → Row
 for_null dropped = ignored
-for_null (said_behind actions) = ignored
+for_null (said_after actions) = ignored
 for_null kept = ignored
 for_null (then_again actions) = again actions
 

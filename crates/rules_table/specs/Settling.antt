@@ -1,6 +1,6 @@
 -- What a mark comes to, and what a page's items do: what tree construction means to a tokenizer.
-use Rattle.std.specs.Prelude.{◌≡◌, ℕ, zero, suc, ◌==◌, ◌&&◌, Bool, false, true, not, fold}
-use Rattle.std.specs.Prelude.{Option, None, Some, if◌then◌else◌}
+use Rattle.std.specs.Prelude.{◌≡◌, ◌==◌, ◌&&◌, if◌then◌else◌, Bool, None, Option, Some, false, fold, not, suc, true}
+use Rattle.std.specs.Prelude.{zero, ℕ}
 use Rattle.tree_forest.specs.Forest.{Forest, Holds, IsElement, name_of}
 use Rattle.token_grammar.specs.Items.{Item}
 use Rattle.token_grammar.specs.Items as items
@@ -16,9 +16,8 @@ use Rattle.rules_table.specs.Actions.{act_all}
 use Rattle.rules_table.specs.Rank.{rank}
 use Rattle.rules_table.specs.Rows.{Row, again, asks, done}
 use Rattle.rules_table.specs.Rule.{rule}
-use Rattle.rules_table.specs.State.{Ask, Mark, State, character, comment, doctype, encoding, end_of_file, finish}
-use Rattle.rules_table.specs.State.{nothing}
-use Rattle.rules_table.specs.State.{null, plaintext, raw, script, start}
+use Rattle.rules_table.specs.State.{Ask, State, TreeToken, character, comment, doctype, encoding, end_of_file, finish}
+use Rattle.rules_table.specs.State.{nothing, null, plaintext, raw, script, start}
 use Rattle.tree_predicates.specs.Foreign.{is_of_html}
 use Rattle.tree_predicates.specs.declared.modes.InsertionMode.TheVariants.{Text}
 
@@ -42,12 +41,12 @@ given_by (asks ask actions) s further = record { ask = ask; state = entered ask 
 given_by (again actions) s further = further (act_all actions s)
 
 -- at most so many rules take a mark
-abbrev pub settle : ℕ → Mark → State → Settled
+abbrev pub settle : ℕ → TreeToken → State → Settled
 settle zero mark s = record { ask = nothing; state = s }
 settle (suc k) mark s = given_by (rule mark s) s (settle k mark)
 
 -- The rank falls each time, so this is as often as it takes.
-abbrev pub taken : Mark → State → Settled
+abbrev pub taken : TreeToken → State → Settled
 taken mark s = settle (suc (rank mark s)) mark s
 
 -- a line feed right after some start tags is left out (13.2.6.4.7); anything that is emitted ends this
@@ -57,7 +56,7 @@ past_tag s = record s { skip_lf = false }
 abbrev pub taken_character : State → ℕ → State
 taken_character s c = if s.skip_lf && c == 10 then past_tag s else (taken (character c) (past_tag s)).state
 
-abbrev pub mark_by : TagKind → Tag → Mark
+abbrev pub mark_by : TagKind → Tag → TreeToken
 mark_by StartTag t = start t
 mark_by EndTag t = finish t
 

@@ -30,14 +30,14 @@ pub record State : Type 0 where
   pub tree : Building
 
 -- what is emitted: a character of text, NUL apart; a comment; a doctype; a start tag; an end tag; the end of the page
-pub data Mark : Type 0 where
-  character : ℕ → Mark
-  null : Mark
-  comment : List ℕ → Mark
-  doctype : Doctype → Mark
-  start : Tag → Mark
-  finish : Tag → Mark
-  end_of_file : Mark
+pub data TreeToken : Type 0 where
+  character : ℕ → TreeToken
+  null : TreeToken
+  comment : List ℕ → TreeToken
+  doctype : Doctype → TreeToken
+  start : Tag → TreeToken
+  finish : Tag → TreeToken
+  end_of_file : TreeToken
 
 -- what is asked of the tokenizer: nothing; that all that follows is text; that the text of an element follows; that a
 -- script is run; that a name of an encoding is looked at

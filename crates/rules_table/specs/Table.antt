@@ -5,11 +5,10 @@ use Rattle.html_lexemes.specs.declared.token.Doctype.{Doctype}
 use Rattle.html_lexemes.specs.declared.token.Tag.{Tag}
 use Rattle.tree_names.specs.Groups.{tag_group}
 use Rattle.tree_names.specs.declared.group.TagGroup.{TagGroup}
-use Rattle.rules_table.specs.Actions.{insert_comment}
+use Rattle.rules_table.specs.Actions.{at_place, insert_comment}
 use Rattle.rules_table.specs.AfterBody.{after_after_body_comment, after_after_body_end, after_after_body_end_of_file}
 use Rattle.rules_table.specs.AfterBody.{after_after_body_start, after_after_body_text, after_body_comment}
-use Rattle.rules_table.specs.AfterBody.{after_body_end}
-use Rattle.rules_table.specs.AfterBody.{after_body_end_of_file, after_body_start, after_body_text}
+use Rattle.rules_table.specs.AfterBody.{after_body_end, after_body_end_of_file, after_body_start, after_body_text}
 use Rattle.rules_table.specs.AfterHead.{after_head_end, after_head_start, after_head_text, body_made}
 use Rattle.rules_table.specs.BeforeHead.{before_head_end, before_head_start, before_head_text, head_made}
 use Rattle.rules_table.specs.BeforeHtml.{before_html_comment, before_html_end, before_html_start, before_html_text}
@@ -33,9 +32,8 @@ use Rattle.rules_table.specs.InTableBody.{in_table_body_end, in_table_body_start
 use Rattle.rules_table.specs.InTemplate.{in_template_end, in_template_start}
 use Rattle.rules_table.specs.Initial.{initial_comment, initial_doctype, initial_other, initial_text}
 use Rattle.rules_table.specs.Rows.{Row, TextRow, again, done, for_character, for_null, ignored, is_white_space}
-use Rattle.rules_table.specs.State.{Mark, State, character, comment, doctype, end_of_file, finish, null, start}
+use Rattle.rules_table.specs.State.{TreeToken, State, character, comment, doctype, end_of_file, finish, null, start}
 use Rattle.rules_table.specs.TextMode.{text_mode_end, text_mode_end_of_file, text_mode_text}
-use Rattle.rules_table.specs.Actions.{at_place}
 use Rattle.tree_predicates.specs.declared.modes.InsertionMode.{InsertionMode}
 use Rattle.tree_predicates.specs.declared.modes.InsertionMode.TheVariants as modes
 
@@ -148,7 +146,7 @@ end_of_file_row modes.AfterFrameset s = frameset_end_of_file
 end_of_file_row modes.AfterAfterBody s = after_after_body_end_of_file
 end_of_file_row modes.AfterAfterFrameset s = frameset_end_of_file
 
-abbrev pub row : InsertionMode → Mark → State → Row
+abbrev pub row : InsertionMode → TreeToken → State → Row
 row mode (character c) s = for_character c (text_row mode (is_white_space c) s)
 row mode null s = for_null (text_row mode false s)
 row mode (comment cs) s = comment_row mode cs s

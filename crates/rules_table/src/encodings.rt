@@ -2,12 +2,12 @@
 ghost use Rattle.std.specs.Prelude.{◌≡◌, IfSome, chars, not, option_map};
 ghost use Rattle.std.specs.Str.{IsUtf8};
 ghost use Rattle.token_grammar.specs.Slices.{after, cut, front_while};
-ghost use Rattle.rules_table.specs.Encodings.{behind_charset, behind_equals, behind_first, declared_encoding};
+ghost use Rattle.rules_table.specs.Encodings.{after_charset, after_equals, after_first, declared_encoding};
 ghost use Rattle.rules_table.specs.Encodings.{declares_type, encoding_in, ends_name, is_white_space, named_encoding};
 ghost use Rattle.rules_table.specs.Encodings.{slice_of, without_white_space, written_name};
 
-use token_grammar::slices::{behind, behind_word, cut_at, first_and_rest};
 use html_lexemes::Attributes;
+use token_grammar::slices::{cut_at, first_and_rest, rest_after_word, trailing};
 use tree_predicates::{is_in_lower_case, value_of};
 
 /// The name of the encoding that the attributes of a `meta` tell: the value of the first `charset`, or else, where
@@ -52,20 +52,20 @@ fn encoding_in(content: &str) -> Option<&str>
     ensures name { option_map (λ name. chars name.now) result ≡ encoding_in (chars content.now) }
     ensures utf8 { IfSome result (λ name. IsUtf8 name.now) }
 {
-    match behind_first(content) {
+    match after_first(content) {
         Some(rest) => written_name(rest),
         None => None,
     }
 }
 
 // what stands after the first `charset` with a `=`
-fn behind_first(content: &str) -> Option<&str>
-    ensures rest { option_map (λ rest. chars rest.now) result ≡ behind_first (chars content.now) }
+fn after_first(content: &str) -> Option<&str>
+    ensures rest { option_map (λ rest. chars rest.now) result ≡ after_first (chars content.now) }
     ensures utf8 { IfSome result (λ rest. IsUtf8 rest.now) }
 {
     let mut left = content;
     'places: while let Some((_, later)) = first_and_rest(left) {
-        if let Some(rest) = behind_charset(left) {
+        if let Some(rest) = after_charset(left) {
             return Some(rest);
         }
         left = later;
@@ -74,22 +74,22 @@ fn behind_first(content: &str) -> Option<&str>
 }
 
 // what stands after `charset` and its `=`, where a text begins with these
-fn behind_charset(text: &str) -> Option<&str>
-    ensures rest { option_map (λ rest. chars rest.now) result ≡ behind_charset (chars text.now) }
+fn after_charset(text: &str) -> Option<&str>
+    ensures rest { option_map (λ rest. chars rest.now) result ≡ after_charset (chars text.now) }
     ensures utf8 { IfSome result (λ rest. IsUtf8 rest.now) }
 {
-    match behind_word(text, "charset") {
-        Some(rest) => behind_equals(rest),
+    match rest_after_word(text, "charset") {
+        Some(rest) => after_equals(rest),
         None => None,
     }
 }
 
 // what stands after a `=` and the white space round it
-fn behind_equals(text: &str) -> Option<&str>
-    ensures rest { option_map (λ rest. chars rest.now) result ≡ behind_equals (chars text.now) }
+fn after_equals(text: &str) -> Option<&str>
+    ensures rest { option_map (λ rest. chars rest.now) result ≡ after_equals (chars text.now) }
     ensures utf8 { IfSome result (λ rest. IsUtf8 rest.now) }
 {
-    match behind(without_white_space(text), "=") {
+    match trailing(without_white_space(text), "=") {
         Some(rest) => Some(without_white_space(rest)),
         None => None,
     }

@@ -7,8 +7,8 @@ ghost use Rattle.rules_table.specs.Actions.{Action, act};
 ghost use Rattle.rules_table.specs.Settling.{Ready, step};
 ghost use Rattle.rules_table.specs.State.{State};
 
-use tree_forest::elements_stay;
 use html_tree_state::words_keep_a_tree_sound;
+use tree_forest::elements_stay;
 
 /// Two texts that follow each other are taken as one.
 pub fn texts_join()

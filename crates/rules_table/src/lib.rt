@@ -45,7 +45,10 @@ mod target;
 mod text_modes;
 
 pub use encodings::named_encoding;
-pub use laws::{ actions_keep_what_is_ready, adjusted_current_nodes_are_elements, open_elements_are_elements, texts_join, };
+pub use laws::{
+    actions_keep_what_is_ready, adjusted_current_nodes_are_elements, open_elements_are_elements,
+    texts_join,
+};
 pub use options::TreeBuilderOpts;
 pub use target::Target;
 pub use text_modes::{but_text, out_of_text};

@@ -49,8 +49,8 @@ fn names_of_rows()
     ensures unclosed { named_in (codes "charset=\"utf-8") ≡ None }
     ensures unclosed_single { named_in (codes "charset='utf-8\"") ≡ None }
     ensures unclosed_before_another { named_in (codes "charset='a charset=b") ≡ None }
-    ensures nothing_behind { named_in (codes "charset=") ≡ None }
-    ensures space_behind { named_in (codes "charset= ") ≡ None }
+    ensures nothing_after { named_in (codes "charset=") ≡ None }
+    ensures space_after { named_in (codes "charset= ") ≡ None }
     ensures up_to_semicolon { named_in (codes "charset=a;b") ≡ Some (codes "a") }
     ensures up_to_space { named_in (codes "charset=a b") ≡ Some (codes "a") }
     ensures up_to_return { named_in (codes "charset=a\rb") ≡ Some (codes "a") }

@@ -1,6 +1,6 @@
 -- No action of a row that hands a mark on opens a table or a template (WHATWG HTML, 13.2.6.4).
-use Rattle.std.proofs.Common.{◌≡◌, ℕ, ◌≤◌, suc, Bool, true, false, if◌then◌else◌, List, [], ◌∷◌, codes, refl, ap, ◌∙◌}
-use Rattle.std.proofs.Common.{inl, inr, arith}
+use Rattle.std.proofs.Common.{◌≡◌, ◌≤◌, if◌then◌else◌, [], ◌∷◌, ◌∙◌, Bool, List, ap, arith, codes, false, inl, inr}
+use Rattle.std.proofs.Common.{refl, suc, true, ℕ}
 use Rattle.tree_formatting.specs.Entries.{Entry, formatted, marker}
 use Rattle.tree_forest.specs.Changes.{contents_number, made, made_element}
 use Rattle.tree_forest.specs.Forest.{Forest, Holds, IsElement, Kind, document, element, element_of, kind_at, name_of}
@@ -20,17 +20,17 @@ use Rattle.tree_names.specs.Sets.{Elements, is_html, is_one_of}
 use Rattle.tree_names.specs.TagSets.{formatting}
 use Rattle.rules_table.specs.Actions.{Action, act, act_all, break_out, clear_to_marker, forget_pending, foster, go_back}
 use Rattle.rules_table.specs.Actions.{go_to, hold_mode, imply_but, in_html, insert_named, keep_head, pop, pop_down_to}
-use Rattle.rules_table.specs.Actions.{pop_template_mode, pop_to, push_template_mode, reconstruct, refuse_frameset}
-use Rattle.rules_table.specs.Actions.{say, set_quirks}
+use Rattle.rules_table.specs.Actions.{pop_template_mode, pop_to, push_template_mode, reconstruct, refuse_frameset, say}
+use Rattle.rules_table.specs.Actions.{set_quirks}
 use Rattle.rules_table.specs.Rank.{how_many}
 use Rattle.rules_table.specs.Settling.{Ready}
 use Rattle.rules_table.specs.State.{State}
 use Rattle.rules_table.specs.Welcome.{ActionsKeep}
 use Rattle.tree_predicates.specs.Attributes.{is_html_annotation}
 use Rattle.tree_predicates.specs.declared.modes.InsertionMode.{InsertionMode}
-use Rattle.rules_table_laws.proofs.CountLemmas.{as_many_named, below_current_fewer, below_first_fewer, formatting_is_neither}
-use Rattle.rules_table_laws.proofs.CountLemmas.{from_first_fewer, from_html_fewer, is_counted, on, one_more}
-use Rattle.rules_table_laws.proofs.CountLemmas.{without_implied_fewer}
+use Rattle.rules_table_laws.proofs.CountLemmas.{as_many_named, below_current_fewer, below_first_fewer}
+use Rattle.rules_table_laws.proofs.CountLemmas.{formatting_is_neither, from_first_fewer, from_html_fewer, is_counted}
+use Rattle.rules_table_laws.proofs.CountLemmas.{on, one_more, without_implied_fewer}
 
 -- the laws that this crate stands on
 pub record Facts : Type 0 where
@@ -147,9 +147,9 @@ module _ (facts : Facts) where
   made_by false marker rest more are further = further are
   made_by false (formatted n tag) rest more are further = (are.0, further are.1)
 
-  behind_entry : (entry : Entry) (rest : List Entry) → AreFormatting (entry ∷ rest) → AreFormatting rest
-  behind_entry marker rest are = are
-  behind_entry (formatted n tag) rest are = are.1
+  after_entry : (entry : Entry) (rest : List Entry) → AreFormatting (entry ∷ rest) → AreFormatting rest
+  after_entry marker rest are = are
+  after_entry (formatted n tag) rest are = are.1
 
   to_make_formatting : (stack : List ℕ) (entries : List Entry) → AreFormatting entries →
       AreFormatting (to_make stack entries)

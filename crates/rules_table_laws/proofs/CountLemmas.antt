@@ -1,6 +1,6 @@
 -- How many tables and templates are open once elements are popped (WHATWG HTML, 13.2.4.2 and 13.2.6.3).
-use Rattle.std.proofs.Common.{◌≡◌, ℕ, ◌≤◌, ◌<◌, ◌+◌, Bool, true, false, ◌||◌, if◌then◌else◌, List, [], ◌∷◌, codes}
-use Rattle.std.proofs.Common.{refl, ap₂, inl, inr, subst, bytes_eq, arith}
+use Rattle.std.proofs.Common.{◌≡◌, ◌≤◌, ◌<◌, ◌+◌, ◌||◌, if◌then◌else◌, [], ◌∷◌, Bool, List, ap₂, arith, bytes_eq, codes}
+use Rattle.std.proofs.Common.{false, inl, inr, refl, subst, true, ℕ}
 use Rattle.std.proofs.lemmas.Slice.Eq.{bytes_eq-Decides}
 use Rattle.tree_forest.specs.Forest.{Forest, is_integration_point, name_of}
 use Rattle.tree_forest.specs.Orders.{IsIn}

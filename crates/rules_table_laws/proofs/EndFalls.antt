@@ -9,7 +9,8 @@ use Rattle.rules_table_laws.proofs.FallForms.{FallsAt, at_once, once_if}
 use Rattle.rules_table_laws.proofs.LessLemmas.{less_11_12, less_12_13, less_2_3, less_3_4, less_3_5, less_3_8, less_4_5}
 use Rattle.rules_table_laws.proofs.LessLemmas.{less_4_7, less_5_6, less_6_7, less_8_9, less_9_10, less_9_11}
 use Rattle.rules_table_laws.proofs.PartFalls.{body_again_falls, body_made_falls, head_closed_falls, head_made_falls}
-use Rattle.rules_table_laws.proofs.PartFalls.{html_made_falls, noscript_closed_falls, pending_falls, without_doctype_falls}
+use Rattle.rules_table_laws.proofs.PartFalls.{html_made_falls, noscript_closed_falls, pending_falls}
+use Rattle.rules_table_laws.proofs.PartFalls.{without_doctype_falls}
 use Rattle.rules_table_laws.proofs.PlaceBounds.{below_table_text, html_back, usual_back}
 use Rattle.rules_table_laws.proofs.RowFalls.{body_end_falls, body_ended_falls, done_in_scope, fostered_end_falls}
 use Rattle.rules_table_laws.proofs.RowFalls.{frameset_end_falls, outer_end_falls, past_caption_falls}

@@ -3,7 +3,7 @@ use Rattle.std.proofs.Common.{◌≡◌, ℕ, ◌≤◌, ◌<◌, ◌+◌, ◌*�
 use Rattle.rules_table.specs.Actions.{act, act_all, break_out}
 use Rattle.rules_table.specs.Rank.{how_many}
 use Rattle.rules_table.specs.Rows.{Row, TextRow, after, again, asks, done, dropped, for_character, for_null, fostered}
-use Rattle.rules_table.specs.Rows.{kept, said_behind, then_again}
+use Rattle.rules_table.specs.Rows.{kept, said_after, then_again}
 use Rattle.rules_table.specs.Settling.{Ready}
 use Rattle.rules_table.specs.State.{State}
 use Rattle.tree_predicates.specs.declared.modes.InsertionMode.{InsertionMode}
@@ -19,7 +19,7 @@ FallsAt p s (again actions) = rank_at p (act_all actions s) < rank_at p s
 
 abbrev pub TextFalls : (InsertionMode → ℕ) → State → TextRow → Type 0
 TextFalls p s dropped = Unit {0}
-TextFalls p s (said_behind actions) = Unit {0}
+TextFalls p s (said_after actions) = Unit {0}
 TextFalls p s kept = Unit {0}
 TextFalls p s (then_again actions) = rank_at p (act_all actions s) < rank_at p s
 
@@ -58,13 +58,13 @@ text_if p s false x y f g = g
 pub of_character : (p : InsertionMode → ℕ) (s : State) (c : ℕ) (text : TextRow) → TextFalls p s text →
     FallsAt p s (for_character c text)
 of_character p s c dropped falls = tt
-of_character p s c (said_behind actions) falls = tt
+of_character p s c (said_after actions) falls = tt
 of_character p s c kept falls = tt
 of_character p s c (then_again actions) falls = falls
 
 pub of_null : (p : InsertionMode → ℕ) (s : State) (text : TextRow) → TextFalls p s text → FallsAt p s (for_null text)
 of_null p s dropped falls = tt
-of_null p s (said_behind actions) falls = tt
+of_null p s (said_after actions) falls = tt
 of_null p s kept falls = tt
 of_null p s (then_again actions) falls = falls
 
@@ -83,18 +83,18 @@ once_fostered (done actions) is = tt
 once_fostered (asks ask actions) is = tt
 once_fostered (again actions) is = is
 
-behind : (x y z a b c : ℕ) → 16 * x + a < 16 * y + b → y ≤ z → b ≡ c → 16 * x + a < 16 * z + c
-behind x y z a b c h i j = omega (arith, h, i, j)
+trailing : (x y z a b c : ℕ) → 16 * x + a < 16 * y + b → y ≤ z → b ≡ c → 16 * x + a < 16 * z + c
+trailing x y z a b c h i j = omega (arith, h, i, j)
 
 -- breaking out of foreign content comes first, and leaves the mode
-pub behind_break_out : (p : InsertionMode → ℕ) (s : State) (r : Row) → Ready s → FallsAt p (act break_out s) r →
+pub after_break_out : (p : InsertionMode → ℕ) (s : State) (r : Row) → Ready s → FallsAt p (act break_out s) r →
     FallsAt p s (after (break_out ∷ []) r)
 unfolding act
-behind_break_out p s (done actions) ready falls = tt
-behind_break_out p s (asks ask actions) ready falls = tt
-behind_break_out p s (again actions) ready falls =
+after_break_out p s (done actions) ready falls = tt
+after_break_out p s (asks ask actions) ready falls = tt
+after_break_out p s (again actions) ready falls =
     let far = act_all actions (act break_out s) in
-    behind (count far) (count (act break_out s)) (count s) (p far.mode) (p (act break_out s).mode) (p s.mode) falls
+    trailing (count far) (count (act break_out s)) (count s) (p far.mode) (p (act break_out s).mode) (p s.mode) falls
     (low_break_out s ready) refl
 
 pub mode_stays : (s : State) → (act break_out s).mode ≡ s.mode

@@ -5,14 +5,14 @@ use Rattle.html_tree_state.specs.Foreign.{named_foreign}
 use Rattle.tree_names.specs.Groups.{tag_group}
 use Rattle.rules_table_laws.proofs.ActionLemmas.{Facts}
 use Rattle.rules_table_laws.proofs.EndFalls.{end_falls}
-use Rattle.rules_table_laws.proofs.FallForms.{FallsAt, TextFalls, at_once, behind_break_out, mode_stays, of_character}
+use Rattle.rules_table_laws.proofs.FallForms.{FallsAt, TextFalls, after_break_out, at_once, mode_stays, of_character}
 use Rattle.rules_table_laws.proofs.FallForms.{of_null, once_if, text_if}
 use Rattle.rules_table_laws.proofs.LessLemmas.{less_0_4, less_0_5, less_0_6, less_11_12, less_12_13, less_3_4, less_3_5}
 use Rattle.rules_table_laws.proofs.LessLemmas.{less_3_8, less_4_5, less_8_9, less_9_10, less_9_11}
 use Rattle.rules_table_laws.proofs.PartFalls.{body_again_falls, body_made_falls, column_group_closed_falls}
-use Rattle.rules_table_laws.proofs.PartFalls.{end_in_template_falls, head_closed_falls, head_made_falls, html_made_falls}
-use Rattle.rules_table_laws.proofs.PartFalls.{noscript_closed_falls, pending_falls, text_collected_falls, text_ended_falls}
-use Rattle.rules_table_laws.proofs.PartFalls.{without_doctype_falls}
+use Rattle.rules_table_laws.proofs.PartFalls.{end_in_template_falls, head_closed_falls, head_made_falls}
+use Rattle.rules_table_laws.proofs.PartFalls.{html_made_falls, noscript_closed_falls, pending_falls}
+use Rattle.rules_table_laws.proofs.PartFalls.{text_collected_falls, text_ended_falls, without_doctype_falls}
 use Rattle.rules_table_laws.proofs.PlaceBounds.{below_table_text, below_text, usual_back, usual_bound}
 use Rattle.rules_table_laws.proofs.StartFalls.{start_falls}
 use Rattle.rules_table_laws.specs.Falls.{Falls}
@@ -26,7 +26,7 @@ use Rattle.rules_table.specs.Rank.{character_place, place, usual_place}
 use Rattle.rules_table.specs.Rows.{Row, again, asks, done, dropped, is_white_space, then_again}
 use Rattle.rules_table.specs.Rule.{broken_out_row, foreign_end, foreign_row, rule}
 use Rattle.rules_table.specs.Settling.{Ready}
-use Rattle.rules_table.specs.State.{Mark, State, character, comment, doctype, end_of_file, finish, null, start}
+use Rattle.rules_table.specs.State.{TreeToken, State, character, comment, doctype, end_of_file, finish, null, start}
 use Rattle.rules_table.specs.Table.{comment_row, doctype_row, end_of_file_row, row, text_row}
 use Rattle.tree_predicates.specs.Foreign.{breaks_out}
 use Rattle.tree_predicates.specs.declared.modes.InsertionMode.{InsertionMode}
@@ -210,7 +210,7 @@ end_of_file_falls facts modes.AfterFrameset s was ready = tt
 end_of_file_falls facts modes.AfterAfterBody s was ready = tt
 end_of_file_falls facts modes.AfterAfterFrameset s was ready = tt
 
-row_falls : Facts → (mark : Mark) (mode : InsertionMode) (s : State) → s.mode ≡ mode → Ready s →
+row_falls : Facts → (mark : TreeToken) (mode : InsertionMode) (s : State) → s.mode ≡ mode → Ready s →
     FallsAt (place mark) s (row mode mark s)
 row_falls facts (character c) mode s was ready = of_character character_place s c
     (text_row mode (is_white_space c) s) (text_falls facts mode (is_white_space c) s was ready)
@@ -222,8 +222,8 @@ row_falls facts (start t) mode s was ready = start_falls facts mode (tag_group t
 row_falls facts (finish t) mode s was ready = end_falls facts mode (tag_group t.name) t s was ready
 row_falls facts end_of_file mode s was ready = end_of_file_falls facts mode s was ready
 
-broken_out_falls : Facts → (mark : Mark) (s : State) → Ready s → FallsAt (place mark) s (broken_out_row mark s)
-broken_out_falls facts mark s ready = behind_break_out (place mark) s (row s.mode mark (act break_out s)) ready
+broken_out_falls : Facts → (mark : TreeToken) (s : State) → Ready s → FallsAt (place mark) s (broken_out_row mark s)
+broken_out_falls facts mark s ready = after_break_out (place mark) s (row s.mode mark (act break_out s)) ready
     (row_falls facts mark s.mode (act break_out s) (mode_stays s) (facts.actions_keep break_out s ready))
 
 either_falls : (p : InsertionMode → ℕ) (s : State) (b : Bool) (x y : Row) → FallsAt p s x → FallsAt p s y →
@@ -235,7 +235,7 @@ foreign_text_falls : (is_space : Bool) (s : State) → TextFalls character_place
 foreign_text_falls true s = tt
 foreign_text_falls false s = tt
 
-foreign_falls : Facts → (mark : Mark) (s : State) → Ready s → FallsAt (place mark) s (foreign_row mark s)
+foreign_falls : Facts → (mark : TreeToken) (s : State) → Ready s → FallsAt (place mark) s (foreign_row mark s)
 foreign_falls facts (character c) s ready = of_character character_place s c (foreign_text (is_white_space c))
     (foreign_text_falls (is_white_space c) s)
 foreign_falls facts null s ready = tt
@@ -250,12 +250,12 @@ foreign_falls facts (finish t) s ready = either_falls (place (finish t)) s (brea
     (row_falls facts (finish t) s.mode s refl ready))
 foreign_falls facts end_of_file s ready = row_falls facts end_of_file s.mode s refl ready
 
-to_falls : (mark : Mark) (s : State) (r : Row) → FallsAt (place mark) s r → Falls mark s r
+to_falls : (mark : TreeToken) (s : State) (r : Row) → FallsAt (place mark) s r → Falls mark s r
 to_falls mark s (done actions) falls = tt
 to_falls mark s (asks ask actions) falls = tt
 to_falls mark s (again actions) falls = falls
 
-pub rule_falls : Facts → (mark : Mark) (s : State) → Ready s → Falls mark s (rule mark s)
+pub rule_falls : Facts → (mark : TreeToken) (s : State) → Ready s → Falls mark s (rule mark s)
 rule_falls facts mark s ready = to_falls mark s (rule mark s) (either_falls (place mark) s (is_by_mode mark s)
     (row s.mode mark s) (foreign_row mark s) (row_falls facts mark s.mode s refl ready)
     (foreign_falls facts mark s ready))

@@ -9,13 +9,13 @@ use Rattle.tree_names.specs.Wanted.{one}
 use Rattle.tree_names.specs.declared.group.TagGroup.{TagGroup}
 use Rattle.rules_table_laws.proofs.FallForms.{IsTakenAtOnce, once_if}
 use Rattle.rules_table.specs.Actions.{Action, at_place, insert_void}
-use Rattle.rules_table.specs.Asking.{body_of, first_opened, has_form, has_template, in_button_scope}
-use Rattle.rules_table.specs.Asking.{in_list_item_scope, in_scope, is_itself_in_scope, is_quirky}
+use Rattle.rules_table.specs.Asking.{body_of, first_opened, has_form, has_template, in_button_scope, in_list_item_scope}
+use Rattle.rules_table.specs.Asking.{in_scope, is_itself_in_scope, is_quirky}
 use Rattle.rules_table.specs.HtmlTag.{given_to, html_start}
 use Rattle.rules_table.specs.InBody.{in_body_start}
 use Rattle.rules_table.specs.InBodyBlocks.{body_start, form_start, frameset_start, given_to_body, in_place_of_body}
 use Rattle.rules_table.specs.InBodyEnds.{form_end, form_pointer_end, in_body_end}
-use Rattle.rules_table.specs.InBodyPhrases.{anchor_behind}
+use Rattle.rules_table.specs.InBodyPhrases.{anchor_after}
 use Rattle.rules_table.specs.InHead.{asks_encoding, noscript_start, template_end}
 use Rattle.rules_table.specs.Rows.{ignored}
 use Rattle.rules_table.specs.State.{State}
@@ -62,7 +62,7 @@ frameset_once t s = once_if s.frameset_ok (in_place_of_body (body_of s) t) ignor
 form_once : (t : Tag) (s : State) → IsTakenAtOnce (form_start t s)
 form_once t s = once_if (has_form s) _ _ tt (once_if (has_template s) _ _ tt tt)
 
-anchor_once : (listed : Option ℕ) (t : Tag) → IsTakenAtOnce (anchor_behind listed t)
+anchor_once : (listed : Option ℕ) (t : Tag) → IsTakenAtOnce (anchor_after listed t)
 anchor_once None t = tt
 anchor_once (Some n) t = tt
 

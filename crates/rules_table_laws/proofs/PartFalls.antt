@@ -4,9 +4,9 @@ use Rattle.tree_names.specs.ElementSets.{table_cells, table_scope_barriers}
 use Rattle.tree_names.specs.Wanted.{one}
 use Rattle.rules_table_laws.proofs.ActionLemmas.{Facts, all_low, low_clear_to_marker, low_forget_pending, low_foster}
 use Rattle.rules_table_laws.proofs.ActionLemmas.{low_go_back, low_go_to, low_hold_mode, low_imply_but, low_insert_named}
-use Rattle.rules_table_laws.proofs.ActionLemmas.{low_keep_head, low_pop, low_pop_down_to, low_pop_template_mode, low_pop_to}
-use Rattle.rules_table_laws.proofs.ActionLemmas.{low_push_template_mode, low_reconstruct, low_refuse_frameset, low_say}
-use Rattle.rules_table_laws.proofs.ActionLemmas.{low_set_quirks}
+use Rattle.rules_table_laws.proofs.ActionLemmas.{low_keep_head, low_pop, low_pop_down_to, low_pop_template_mode}
+use Rattle.rules_table_laws.proofs.ActionLemmas.{low_pop_to, low_push_template_mode, low_reconstruct}
+use Rattle.rules_table_laws.proofs.ActionLemmas.{low_refuse_frameset, low_say, low_set_quirks}
 use Rattle.rules_table_laws.proofs.CountLemmas.{closed_fewer, open_in_scope, table_is_part, template_is_part}
 use Rattle.rules_table_laws.proofs.FallForms.{FallsAt, closes, falls_if, goes, rank_at}
 use Rattle.rules_table.specs.Actions.{act, act_all, but_text, clear_to_marker, forget_pending, foster, go_back, go_to}

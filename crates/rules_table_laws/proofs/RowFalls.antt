@@ -10,7 +10,8 @@ use Rattle.rules_table_laws.proofs.FallForms.{FallsAt, IsTakenAtOnce, at_once, f
 use Rattle.rules_table_laws.proofs.OnceLemmas.{IsNotHtml, body_end_once, body_start_once, html_once, meta_once}
 use Rattle.rules_table_laws.proofs.OnceLemmas.{noscript_once, template_once}
 use Rattle.rules_table_laws.proofs.PartFalls.{caption_closed_falls, cell_closed_falls, column_group_closed_falls}
-use Rattle.rules_table_laws.proofs.PartFalls.{past_body_falls, row_closed_falls, section_closed_falls, table_closed_falls}
+use Rattle.rules_table_laws.proofs.PartFalls.{past_body_falls, row_closed_falls, section_closed_falls}
+use Rattle.rules_table_laws.proofs.PartFalls.{table_closed_falls}
 use Rattle.rules_table.specs.Actions.{Action, go_to, is_known}
 use Rattle.rules_table.specs.Asking.{has_template, in_scope, in_table_scope}
 use Rattle.rules_table.specs.Framesets.{frameset_closed, is_frameset}

@@ -9,13 +9,15 @@ use Rattle.rules_table_laws.proofs.LessLemmas.{less_11_12, less_12_13, less_2_3,
 use Rattle.rules_table_laws.proofs.LessLemmas.{less_3_6, less_3_8, less_4_5, less_4_7, less_4_8, less_5_6, less_6_7}
 use Rattle.rules_table_laws.proofs.LessLemmas.{less_8_9, less_9_10, less_9_11}
 use Rattle.rules_table_laws.proofs.PartFalls.{becomes_falls, body_again_falls, body_made_falls, column_group_made_falls}
-use Rattle.rules_table_laws.proofs.PartFalls.{head_closed_falls, head_made_falls, html_made_falls, noscript_closed_falls}
-use Rattle.rules_table_laws.proofs.PartFalls.{pending_falls, row_made_falls, section_made_falls, without_doctype_falls}
-use Rattle.rules_table_laws.proofs.PlaceBounds.{below_table_text, cell_back, column_back, row_back, usual_back, usual_bound}
-use Rattle.rules_table_laws.proofs.RowFalls.{body_start_falls, form_falls, fostered_start_falls, html_falls, input_falls}
-use Rattle.rules_table_laws.proofs.RowFalls.{meta_falls, noscript_falls, past_caption_falls, past_cell_falls}
-use Rattle.rules_table_laws.proofs.RowFalls.{past_column_group_falls, past_row_falls, past_table_body_falls}
-use Rattle.rules_table_laws.proofs.RowFalls.{table_start_falls}
+use Rattle.rules_table_laws.proofs.PartFalls.{head_closed_falls, head_made_falls, html_made_falls}
+use Rattle.rules_table_laws.proofs.PartFalls.{noscript_closed_falls, pending_falls, row_made_falls, section_made_falls}
+use Rattle.rules_table_laws.proofs.PartFalls.{without_doctype_falls}
+use Rattle.rules_table_laws.proofs.PlaceBounds.{below_table_text, cell_back, column_back, row_back, usual_back}
+use Rattle.rules_table_laws.proofs.PlaceBounds.{usual_bound}
+use Rattle.rules_table_laws.proofs.RowFalls.{body_start_falls, form_falls, fostered_start_falls, html_falls}
+use Rattle.rules_table_laws.proofs.RowFalls.{input_falls, meta_falls, noscript_falls, past_caption_falls}
+use Rattle.rules_table_laws.proofs.RowFalls.{past_cell_falls, past_column_group_falls, past_row_falls}
+use Rattle.rules_table_laws.proofs.RowFalls.{past_table_body_falls, table_start_falls}
 use Rattle.rules_table.specs.Actions.{at_place, into_head}
 use Rattle.rules_table.specs.Rank.{start_place}
 use Rattle.rules_table.specs.Settling.{Ready}

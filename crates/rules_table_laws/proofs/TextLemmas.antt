@@ -1,7 +1,6 @@
 -- Runs of text, by what a mode makes of their characters.
-use Rattle.std.proofs.Common.{◌≡◌, ℕ, ◌⊎◌, inl, inr, ◌==◌, ◌&&◌, ◌||◌, Bool, true, false, if◌then◌else◌, List, [], ◌∷◌}
-use Rattle.std.proofs.Common.{codes}
-use Rattle.std.proofs.Common.{◌++◌, ◌<◌, append_assoc, fold, refl, sym, ap, ◌∙◌, subst, Option, None, Some}
+use Rattle.std.proofs.Common.{◌≡◌, ◌⊎◌, ◌==◌, ◌&&◌, ◌||◌, if◌then◌else◌, [], ◌∷◌, ◌++◌, ◌<◌, ◌∙◌, Bool, List, None}
+use Rattle.std.proofs.Common.{Option, Some, ap, append_assoc, codes, false, fold, inl, inr, refl, subst, sym, true, ℕ}
 use Rattle.std.proofs.lemmas.List.{append-nil}
 use Rattle.tree_forest.specs.Forest.{Forest, Holds, Kind, element_of, is_integration_point, kind_at, name_of}
 use Rattle.tree_forest.specs.declared.sink.QuirksMode.TheVariants.{Quirks}
@@ -15,22 +14,21 @@ use Rattle.html_tree_state.specs.Words.{Words}
 use Rattle.tree_names.specs.ElementSets.{table_text_places}
 use Rattle.tree_names.specs.Sets.{Elements, is_element_of}
 use Rattle.tree_names.specs.Wanted.{one}
-use Rattle.rules_table.specs.Actions.{Action, act, act_all, is_current, is_text, keep_pending, reconstruct}
-use Rattle.rules_table.specs.Actions.{forget_pending, go_to, hold_mode, say, set_quirks}
+use Rattle.rules_table.specs.Actions.{Action, act, act_all, forget_pending, go_to, hold_mode, is_current, is_text}
+use Rattle.rules_table.specs.Actions.{keep_pending, reconstruct, say, set_quirks}
 use Rattle.rules_table.specs.Asking.{all_are, collects_text}
 use Rattle.rules_table.specs.ForeignContent.{foreign_text, is_by_mode, is_taken_at, takes}
 use Rattle.rules_table.specs.InBody.{in_body_text}
 use Rattle.rules_table.specs.InColumnGroup.{column_group_closed, is_in_column_group}
-use Rattle.rules_table.specs.Rows.{TextRow, done, dropped, for_character, is_white_space, kept, said_behind}
-use Rattle.rules_table.specs.Rows.{then_again}
+use Rattle.rules_table.specs.Rows.{TextRow, done, dropped, for_character, is_white_space, kept, said_after, then_again}
 use Rattle.rules_table.specs.Rule.{foreign_row, rule}
 use Rattle.rules_table.specs.Rank.{rank}
 use Rattle.rules_table.specs.Settling.{Ready, Settled, given_by, past_tag, taken, taken_character}
-use Rattle.rules_table.specs.State.{Mark, State, character, null}
+use Rattle.rules_table.specs.State.{TreeToken, State, character, null}
 use Rattle.rules_table.specs.Table.{row, text_row}
 use Rattle.rules_table.specs.Welcome.{ActionsKeep}
 use Rattle.rules_table.specs.declared.options.TreeBuilderOpts.{TreeBuilderOpts}
-use Rattle.rules_table_laws.specs.TextRuns.{IsCalm, IsPassedOn, TextRuns, told, took}
+use Rattle.rules_table_laws.specs.TextRuns.{IsCalm, IsPassedOn, TextRuns, emitted, took}
 use Rattle.rules_table_laws.specs.TextClasses.{AreByMode, AreOfClass}
 use Rattle.rules_table_laws.specs.declared.text_class.TextClass.TheVariants as classes
 use Rattle.rules_table_laws.specs.Falls.{Falls}
@@ -39,8 +37,8 @@ use Rattle.tree_predicates.specs.declared.modes.InsertionMode.{InsertionMode}
 use Rattle.tree_predicates.specs.declared.modes.InsertionMode.TheVariants as modes
 
 pub record TextLaws : Type 0 where
-  pub comes : (mark : Mark) (s : State) → Ready s → taken mark s ≡ given_by (rule mark s) s (taken mark)
-  pub falls : (mark : Mark) (s : State) → Ready s → Falls mark s (rule mark s)
+  pub comes : (mark : TreeToken) (s : State) → Ready s → taken mark s ≡ given_by (rule mark s) s (taken mark)
+  pub falls : (mark : TreeToken) (s : State) → Ready s → Falls mark s (rule mark s)
   pub actions : ActionsKeep
   pub words : Words
   pub nodes : NodeLaws
@@ -66,11 +64,11 @@ abbrev ahead : List ℕ → Bool → State → State
 ahead cs ok s = record s { frameset_ok = ok; tree = said cs s.tree }
 
 -- by what a node is
-abbrev takes_by : Mark → Kind → Bool
+abbrev takes_by : TreeToken → Kind → Bool
 takes_by mark k = takes mark (element_of k).name (element_of k).integration_point
 
 -- the open elements and a fragment's context stay what they are
-taken_same : (mark : Mark) (f g : Forest) (context : Option ℕ) (stack : List ℕ) →
+taken_same : (mark : TreeToken) (f g : Forest) (context : Option ℕ) (stack : List ℕ) →
     ((n : ℕ) → IsIn n stack → kind_at n g ≡ kind_at n f) →
     ((n : ℕ) → context ≡ Some n → kind_at n g ≡ kind_at n f) →
     is_taken_at mark g (adjusted_current context stack) ≡ is_taken_at mark f (adjusted_current context stack)
@@ -220,7 +218,7 @@ foreign_taken laws true t c calm is = by_done laws t c _ calm is
 foreign_taken laws false t c calm is = by_done laws t c _ calm is
 
 pub foreign_run : TextLaws → (s : State) (cs : List ℕ) → IsCalm s →
-    ((c : ℕ) → is_by_mode (character c) s ≡ false) → took cs s ≡ told cs s
+    ((c : ℕ) → is_by_mode (character c) s ≡ false) → took cs s ≡ emitted cs s
 foreign_run laws s cs calm by = run_of laws s calm.ready refusing cs [] s.frameset_ok
     (λ c ds ok i. foreign_taken laws (is_white_space c) (ahead ds ok s) c
     (record { ready = ahead_ready laws s calm.ready ds ok; flag = calm.flag })
@@ -346,7 +344,7 @@ module _ (laws : TextLaws) (s : State) (ready : Ready s) where
       }) (laws.words.reconstructs_once ds s.tree)
 
 pub body_run : TextLaws → (s : State) (c : ℕ) (cs : List ℕ) → IsCalm s → AreByMode s →
-    AreOfClass classes.InBody (c ∷ cs) s → took (c ∷ cs) s ≡ told (c ∷ cs) (act reconstruct s)
+    AreOfClass classes.InBody (c ∷ cs) s → took (c ∷ cs) s ≡ emitted (c ∷ cs) (act reconstruct s)
 unfolding act
 body_run laws s c cs calm by are =
     let step = body_step laws s calm.ready calm.flag in
@@ -360,7 +358,7 @@ body_run laws s c cs calm by are =
 -- handed on
 abbrev KeepsFlag : TextRow → State → Type 0
 KeepsFlag dropped s = Unit {0}
-KeepsFlag (said_behind actions) s = Unit {0}
+KeepsFlag (said_after actions) s = Unit {0}
 KeepsFlag kept s = Unit {0}
 KeepsFlag (then_again actions) s = (act_all actions s).skip_lf ≡ s.skip_lf
 

@@ -1,6 +1,6 @@
 -- After a reconstruction of formatting elements the current node is the one that it was, or a formatting element.
-use Rattle.std.proofs.Common.{◌≡◌, ℕ, suc, ◌⊎◌, inl, inr, Bool, true, false, if◌then◌else◌, List, [], ◌∷◌, codes, refl}
-use Rattle.std.proofs.Common.{ap, sym, ◌∙◌, subst, arith, bytes_eq, ◌||◌}
+use Rattle.std.proofs.Common.{◌≡◌, ◌⊎◌, if◌then◌else◌, [], ◌∷◌, ◌∙◌, ◌||◌, Bool, List, ap, arith, bytes_eq, codes}
+use Rattle.std.proofs.Common.{false, inl, inr, refl, subst, suc, sym, true, ℕ}
 use Rattle.std.proofs.lemmas.Bool.{cases_Bool}
 use Rattle.std.proofs.lemmas.Slice.Eq.{bytes_eq-Decides}
 use Rattle.tree_formatting.specs.Entries.{Entry, formatted, marker}

@@ -1,27 +1,26 @@
 -- Nothing that is emitted but the end of the page says that it is over, and nothing says that a call was refused.
-use Rattle.std.specs.Prelude.{◌≡◌, ℕ, zero, suc, Bool, false, true, ◌==◌, ◌&&◌, List, [], ◌∷◌, fold, refl}
-use Rattle.std.specs.Prelude.{if◌then◌else◌}
+use Rattle.std.specs.Prelude.{◌≡◌, ◌==◌, ◌&&◌, [], ◌∷◌, if◌then◌else◌, Bool, List, false, fold, refl, suc, true, zero}
+use Rattle.std.specs.Prelude.{ℕ}
 use Rattle.std.proofs.Common.{ap, ◌∙◌}
 use Rattle.token_grammar.specs.Items.{Item}
 use Rattle.token_grammar.specs.Items as items
 use Rattle.token_grammar.specs.Kinds.{IsWithin}
 use Rattle.html_lexemes.specs.declared.token.Tag.{Tag}
-use Rattle.rules_table.specs.Actions.{act, act_all, Action, add_attributes, adopt, adopt_in_scope, append_doctype}
-use Rattle.rules_table.specs.Actions.{break_out, clear_to_marker, close_foreign, close_item, close_other}
-use Rattle.rules_table.specs.Actions.{close_p, comment_to_document, comment_to_root, forget_form, forget_pending}
-use Rattle.rules_table.specs.Actions.{foster, go_back, go_to, hold_mode, imply_but, insert, insert_comment}
-use Rattle.rules_table.specs.Actions.{insert_foreign, insert_formatting, insert_named, insert_void, keep_form}
-use Rattle.rules_table.specs.Actions.{keep_head, keep_pending, pop, pop_down_to, pop_if}
-use Rattle.rules_table.specs.Actions.{pop_template_mode, pop_to, push_template_mode, put_marker, reconstruct}
-use Rattle.rules_table.specs.Actions.{refuse_frameset, reset, say, set_quirks, skip_next_line_feed, take_off, take_out}
-use Rattle.rules_table.specs.Actions.{unlist}
+use Rattle.rules_table.specs.Actions.{Action, act, act_all, add_attributes, adopt, adopt_in_scope, append_doctype}
+use Rattle.rules_table.specs.Actions.{break_out, clear_to_marker, close_foreign, close_item, close_other, close_p}
+use Rattle.rules_table.specs.Actions.{comment_to_document, comment_to_root, forget_form, forget_pending, foster}
+use Rattle.rules_table.specs.Actions.{go_back, go_to, hold_mode, imply_but, insert, insert_comment, insert_foreign}
+use Rattle.rules_table.specs.Actions.{insert_formatting, insert_named, insert_void, keep_form, keep_head, keep_pending}
+use Rattle.rules_table.specs.Actions.{pop, pop_down_to, pop_if, pop_template_mode, pop_to, push_template_mode}
+use Rattle.rules_table.specs.Actions.{put_marker, reconstruct, refuse_frameset, reset, say, set_quirks}
+use Rattle.rules_table.specs.Actions.{skip_next_line_feed, take_off, take_out, unlist}
 use Rattle.rules_table.specs.Rank.{rank}
 use Rattle.rules_table.specs.Rows.{Row, again, asks, done}
 use Rattle.rules_table.specs.Rule.{rule}
 use Rattle.rules_table.specs.Settling.{Settled, entered, given_by, mark_by, past_tag, settle, step, taken}
 use Rattle.rules_table.specs.Settling.{taken_character}
-use Rattle.rules_table.specs.State.{Ask, Mark, State, character, comment, doctype, encoding, end_of_file}
-use Rattle.rules_table.specs.State.{nothing, null, plaintext, raw, script}
+use Rattle.rules_table.specs.State.{Ask, State, TreeToken, character, comment, doctype, encoding, end_of_file, nothing}
+use Rattle.rules_table.specs.State.{null, plaintext, raw, script}
 use Rattle.rules_table.specs.declared.target.Target.TheVariants as targets
 
 -- whether the page is over, and whether a call was refused
@@ -98,11 +97,11 @@ given_by-flags (asks ask actions) s further later =
     entered-flags ask (act_all actions s) ∙ act_all-flags actions s
 given_by-flags (again actions) s further later = later (act_all actions s) ∙ act_all-flags actions s
 
-settle-flags : (k : ℕ) (mark : Mark) (s : State) → flags (settle k mark s).state ≡ flags s
+settle-flags : (k : ℕ) (mark : TreeToken) (s : State) → flags (settle k mark s).state ≡ flags s
 settle-flags zero mark s = refl
 settle-flags (suc k) mark s = given_by-flags (rule mark s) s (settle k mark) (settle-flags k mark)
 
-taken-flags : (mark : Mark) (s : State) → flags (taken mark (past_tag s)).state ≡ flags s
+taken-flags : (mark : TreeToken) (s : State) → flags (taken mark (past_tag s)).state ≡ flags s
 taken-flags mark s = settle-flags (suc (rank mark (past_tag s))) mark (past_tag s)
 
 either-flags : (b : Bool) (s t u : State) → flags s ≡ flags u → flags t ≡ flags u →

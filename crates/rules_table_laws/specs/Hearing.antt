@@ -1,12 +1,12 @@
 -- Tree construction hears what it asks for (WHATWG HTML, 13.2.6.2): the mode "text" is entered only where the text of
 -- an element is asked for, and left only after an end tag.
-use Rattle.std.specs.Prelude.{◌≡◌, ℕ, zero, suc, Bool, false, true, ◌==◌, ◌&&◌, ◌||◌, List, [], ◌∷◌, fold, refl}
-use Rattle.std.specs.Prelude.{if◌then◌else◌}
+use Rattle.std.specs.Prelude.{◌≡◌, ◌==◌, ◌&&◌, ◌||◌, [], ◌∷◌, if◌then◌else◌, Bool, List, false, fold, refl, suc, true}
+use Rattle.std.specs.Prelude.{zero, ℕ}
 use Rattle.std.proofs.Common.{sym, ap, subst, ◌∙◌}
 use Rattle.token_grammar.specs.Items.{Item}
 use Rattle.token_grammar.specs.Items as items
 use Rattle.token_grammar.specs.Kinds.{IsHearing, IsOf, IsOfTag, IsWithin}
-use Rattle.token_grammar.specs.Modes.{text_behind}
+use Rattle.token_grammar.specs.Modes.{text_after}
 use Rattle.token_grammar.specs.declared.modes.TextKind.TheVariants.{Plain, Raw}
 use Rattle.html_lexemes.specs.declared.states.RawKind.{RawKind}
 use Rattle.html_lexemes.specs.declared.token.Doctype.{Doctype}
@@ -17,24 +17,23 @@ use Rattle.tree_names.specs.Groups.{tag_group}
 use Rattle.tree_names.specs.declared.group.TagGroup.{TagGroup}
 use Rattle.tree_names.specs.declared.group.TagGroup.TheVariants as groups
 use Rattle.rules_table_laws.specs.Flags.{step-goes_on, step-works, tag-goes_on}
-use Rattle.rules_table.specs.Actions.{act, act_all, Action, add_attributes, adopt, adopt_in_scope, append_doctype}
+use Rattle.rules_table.specs.Actions.{Action, act, act_all, add_attributes, adopt, adopt_in_scope, append_doctype}
 use Rattle.rules_table.specs.Actions.{break_out, but_text, clear_to_marker, close_foreign, close_item, close_other}
 use Rattle.rules_table.specs.Actions.{close_p, comment_to_document, comment_to_root, forget_form, forget_pending}
 use Rattle.rules_table.specs.Actions.{foster, go_back, go_to, hold_mode, imply_but, insert, insert_comment}
 use Rattle.rules_table.specs.Actions.{insert_foreign, insert_formatting, insert_named, insert_void, is_text, keep_form}
-use Rattle.rules_table.specs.Actions.{keep_head, keep_pending, out_of_text, pop, pop_down_to, pop_if}
-use Rattle.rules_table.specs.Actions.{pop_template_mode, pop_to, push_template_mode, put_marker, reconstruct}
-use Rattle.rules_table.specs.Actions.{refuse_frameset, reset, say, set_quirks, skip_next_line_feed, take_off, take_out}
-use Rattle.rules_table.specs.Actions.{unlist}
+use Rattle.rules_table.specs.Actions.{keep_head, keep_pending, out_of_text, pop, pop_down_to, pop_if, pop_template_mode}
+use Rattle.rules_table.specs.Actions.{pop_to, push_template_mode, put_marker, reconstruct, refuse_frameset, reset, say}
+use Rattle.rules_table.specs.Actions.{set_quirks, skip_next_line_feed, take_off, take_out, unlist}
 use Rattle.rules_table.specs.ForeignContent.{foreign_text, is_by_mode, is_taken_at, node_here}
 use Rattle.rules_table.specs.Rank.{rank}
-use Rattle.rules_table.specs.Rows.{Row, TextRow, again, asks, done, dropped, for_character, for_null}
-use Rattle.rules_table.specs.Rows.{is_white_space, kept, said_behind, then_again}
+use Rattle.rules_table.specs.Rows.{Row, TextRow, again, asks, done, dropped, for_character, for_null, is_white_space}
+use Rattle.rules_table.specs.Rows.{kept, said_after, then_again}
 use Rattle.rules_table.specs.Rule.{foreign_row, rule}
 use Rattle.rules_table.specs.Settling.{Settled, answer_of, entered, given_by, mark_by, meaning, past_tag, reply, settle}
 use Rattle.rules_table.specs.Settling.{step, taken, taken_character}
-use Rattle.rules_table.specs.State.{Ask, Mark, State, character, comment, doctype, encoding, end_of_file}
-use Rattle.rules_table.specs.State.{finish, nothing, null, plaintext, raw, script, start}
+use Rattle.rules_table.specs.State.{Ask, State, TreeToken, character, comment, doctype, encoding, end_of_file, finish}
+use Rattle.rules_table.specs.State.{nothing, null, plaintext, raw, script, start}
 use Rattle.rules_table.specs.Table.{comment_row, doctype_row, row, text_row}
 use Rattle.rules_table.specs.TextMode.{text_mode_end}
 use Rattle.rules_table.specs.Welcome.{IsHeard, IsWelcome}
@@ -150,13 +149,13 @@ IsQuiet (again actions) = Unit {0}
 
 for_character-quiet : (c : ℕ) (r : TextRow) → IsQuiet (for_character c r)
 for_character-quiet c dropped = tt
-for_character-quiet c (said_behind actions) = tt
+for_character-quiet c (said_after actions) = tt
 for_character-quiet c kept = tt
 for_character-quiet c (then_again actions) = tt
 
 for_null-quiet : (r : TextRow) → IsQuiet (for_null r)
 for_null-quiet dropped = tt
-for_null-quiet (said_behind actions) = tt
+for_null-quiet (said_after actions) = tt
 for_null-quiet kept = tt
 for_null-quiet (then_again actions) = tt
 
@@ -211,7 +210,7 @@ doctype_row-quiet modes.AfterFrameset d s = tt
 doctype_row-quiet modes.AfterAfterBody d s = tt
 doctype_row-quiet modes.AfterAfterFrameset d s = tt
 
-abbrev IsNoTag : Mark → Type 0
+abbrev IsNoTag : TreeToken → Type 0
 IsNoTag (character c) = Unit {0}
 IsNoTag null = Unit {0}
 IsNoTag (comment cs) = Unit {0}
@@ -220,7 +219,7 @@ IsNoTag (start t) = ⊥
 IsNoTag (finish t) = ⊥
 IsNoTag end_of_file = ⊥
 
-row-quiet : (mark : Mark) (mode : InsertionMode) (s : State) → IsNoTag mark → IsQuiet (row mode mark s)
+row-quiet : (mark : TreeToken) (mode : InsertionMode) (s : State) → IsNoTag mark → IsQuiet (row mode mark s)
 row-quiet (character c) mode s h = for_character-quiet c (text_row mode (is_white_space c) s)
 row-quiet null mode s h = for_null-quiet (text_row mode false s)
 row-quiet (comment cs) mode s h = comment_row-quiet mode cs s
@@ -229,7 +228,7 @@ row-quiet (start t) mode s h = absurd h
 row-quiet (finish t) mode s h = absurd h
 row-quiet end_of_file mode s h = absurd h
 
-foreign_row-quiet : (mark : Mark) (s : State) → IsNoTag mark → IsQuiet (foreign_row mark s)
+foreign_row-quiet : (mark : TreeToken) (s : State) → IsNoTag mark → IsQuiet (foreign_row mark s)
 foreign_row-quiet (character c) s h = for_character-quiet c (foreign_text (is_white_space c))
 foreign_row-quiet null s h = tt
 foreign_row-quiet (comment cs) s h = tt
@@ -238,7 +237,7 @@ foreign_row-quiet (start t) s h = absurd h
 foreign_row-quiet (finish t) s h = absurd h
 foreign_row-quiet end_of_file s h = absurd h
 
-rule-quiet : (mark : Mark) (s : State) → IsNoTag mark → IsQuiet (rule mark s)
+rule-quiet : (mark : TreeToken) (s : State) → IsNoTag mark → IsQuiet (rule mark s)
 rule-quiet mark s h =
     either-quiet (is_by_mode mark s) _ _ (row-quiet mark s.mode s h) (foreign_row-quiet mark s h)
 
@@ -250,13 +249,13 @@ given_by-stays (done actions) s further h quiet later = act_all-stays actions s 
 given_by-stays (asks ask actions) s further h quiet later = absurd quiet
 given_by-stays (again actions) s further h quiet later = later (act_all actions s) (act_all-stays actions s h)
 
-settle-stays : (k : ℕ) (mark : Mark) (s : State) → IsNoTag mark → is_text s.mode ≡ false →
+settle-stays : (k : ℕ) (mark : TreeToken) (s : State) → IsNoTag mark → is_text s.mode ≡ false →
     is_text (settle k mark s).state.mode ≡ false
 settle-stays zero mark s no_tag h = h
 settle-stays (suc k) mark s no_tag h = given_by-stays (rule mark s) s (settle k mark) h (rule-quiet mark s no_tag)
     (λ t i. settle-stays k mark t no_tag i)
 
-taken-stays : (mark : Mark) (s : State) → IsNoTag mark → is_text s.mode ≡ false →
+taken-stays : (mark : TreeToken) (s : State) → IsNoTag mark → is_text s.mode ≡ false →
     is_text (taken mark s).state.mode ≡ false
 taken-stays mark s no_tag h = settle-stays (suc (rank mark s)) mark s no_tag h
 
@@ -288,7 +287,7 @@ by_mode : (a b : Bool) (r q : Row) → a ≡ true → (if a || b then r else q) 
 by_mode true b r q h = refl
 by_mode false b r q h = absurd (cc)
 
-in_text : (mark : Mark) (s : State) → is_text s.mode ≡ true → rule mark s ≡ row modes.Text mark s
+in_text : (mark : TreeToken) (s : State) → is_text s.mode ≡ true → rule mark s ≡ row modes.Text mark s
 in_text mark s h = by_mode (is_text s.mode) (is_taken_at mark s.tree.forest (node_here s)) (row s.mode mark s)
     (foreign_row mark s) h ∙ ap (λ (m : InsertionMode). row m mark s) (text_mode s.mode h)
 
@@ -347,7 +346,7 @@ step-hears s item later within hears hears_later = record {
 
 -- After a tag the mode is "text" only where the text of an element was asked for.
 abbrev IsAsked : {H : Type 0} → (ℕ → H) → Item → Settled → Type 0
-IsAsked handle later r = IsOf (text_behind (answer_of handle r.ask)) later → IsHeard (is_text r.state.mode) later
+IsAsked handle later r = IsOf (text_after (answer_of handle r.ask)) later → IsHeard (is_text r.state.mode) later
 
 heard-elsewhere : (b : Bool) (item : Item) → b ≡ false → IsHeard b item
 heard-elsewhere true item h = absurd (cc)
@@ -384,7 +383,7 @@ given_by-asked handle later (asks ask actions) s further h on =
 given_by-asked handle later (again actions) s further h on =
     on (act_all actions s) (act_all-stays actions s h)
 
-settle-asked : {H : Type 0} (handle : ℕ → H) (later : Item) (k : ℕ) (mark : Mark) (s : State) →
+settle-asked : {H : Type 0} (handle : ℕ → H) (later : Item) (k : ℕ) (mark : TreeToken) (s : State) →
     is_text s.mode ≡ false → IsAsked handle later (settle k mark s)
 settle-asked handle later zero mark s h = λ _. heard-elsewhere (is_text s.mode) later h
 settle-asked handle later (suc k) mark s h =
@@ -521,7 +520,7 @@ plain_tag true t heard h = heard
 plain_tag false t heard h = absurd (cc)
 
 tag-hears : {H : Type 0} (handle : ℕ → H) (s : State) (t : Tag) (later : Item) → IsWelcome s (items.tag t) →
-    IsOf (text_behind (reply handle s (items.tag t))) later → IsWelcome (step s (items.tag t)) later
+    IsOf (text_after (reply handle s (items.tag t))) later → IsWelcome (step s (items.tag t)) later
 tag-hears handle s t later hears asked = record {
   works = step-works s (items.tag t) ∙ hears.works;
   goes_on = tag-goes_on s t ∙ hears.goes_on;

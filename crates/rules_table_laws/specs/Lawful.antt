@@ -1,7 +1,7 @@
 -- Tree construction is lawful to a tokenizer (WHATWG HTML, 13.2.6): texts that follow each other are as one, tags alone
 -- are answered, what holds between two items is kept, and an error ends at most the rule of the line feed.
-use Rattle.std.specs.Prelude.{◌≡◌, ℕ, zero, suc, Bool, false, true, ◌==◌, ◌&&◌, List, [], ◌∷◌, ◌++◌, fold, refl}
-use Rattle.std.specs.Prelude.{if◌then◌else◌}
+use Rattle.std.specs.Prelude.{◌≡◌, ◌==◌, ◌&&◌, [], ◌∷◌, ◌++◌, if◌then◌else◌, Bool, List, false, fold, refl, suc, true}
+use Rattle.std.specs.Prelude.{zero, ℕ}
 use Rattle.std.proofs.Common.{sym, ap, ◌∙◌}
 use Rattle.std.proofs.lemmas.Bool.{ne_eqb}
 use Rattle.std.proofs.lemmas.List.Sums.{fold-append}
@@ -14,10 +14,10 @@ use Rattle.rules_table.specs.Actions.{Action, act, act_all}
 use Rattle.rules_table.specs.Rank.{rank}
 use Rattle.rules_table.specs.Rows.{Row, again, asks, done}
 use Rattle.rules_table.specs.Rule.{rule}
-use Rattle.rules_table.specs.Settling.{Settled, entered, given_by, mark_by, meaning, over, past_tag, reply}
-use Rattle.rules_table.specs.Settling.{settle, step, taken, taken_character}
-use Rattle.rules_table.specs.State.{Ask, Mark, State, character, comment, doctype, encoding, end_of_file}
-use Rattle.rules_table.specs.State.{nothing, null, plaintext, raw, script}
+use Rattle.rules_table.specs.Settling.{Settled, entered, given_by, mark_by, meaning, over, past_tag, reply, settle}
+use Rattle.rules_table.specs.Settling.{step, taken, taken_character}
+use Rattle.rules_table.specs.State.{Ask, State, TreeToken, character, comment, doctype, encoding, end_of_file, nothing}
+use Rattle.rules_table.specs.State.{null, plaintext, raw, script}
 use Rattle.rules_table.specs.Welcome.{IsReady}
 
 -- flags and modes are not read by what holds between two items
@@ -63,11 +63,11 @@ given_by-ready (done actions) s further r later = act_all-ready actions s r
 given_by-ready (asks ask actions) s further r later = entered-ready ask (act_all actions s) (act_all-ready actions s r)
 given_by-ready (again actions) s further r later = later (act_all actions s) (act_all-ready actions s r)
 
-settle-ready : (k : ℕ) (mark : Mark) (s : State) → IsReady s → IsReady (settle k mark s).state
+settle-ready : (k : ℕ) (mark : TreeToken) (s : State) → IsReady s → IsReady (settle k mark s).state
 settle-ready zero mark s r = r
 settle-ready (suc k) mark s r = given_by-ready (rule mark s) s (settle k mark) r (settle-ready k mark)
 
-taken-ready : (mark : Mark) (s : State) → IsReady s → IsReady (taken mark (past_tag s)).state
+taken-ready : (mark : TreeToken) (s : State) → IsReady s → IsReady (taken mark (past_tag s)).state
 taken-ready mark s r = settle-ready (suc (rank mark (past_tag s))) mark (past_tag s) (past_tag-ready s r)
 
 either-ready : (b : Bool) (s t : State) → IsReady s → IsReady t → IsReady (if b then s else t)

@@ -3,7 +3,7 @@ use Rattle.std.specs.Prelude.{◌≡◌, ℕ, Bool, true, List, []}
 use Rattle.tree_forest.specs.Orders.{IsIn}
 use Rattle.rules_table.specs.ForeignContent.{is_by_mode}
 use Rattle.rules_table.specs.InBody.{in_body_text}
-use Rattle.rules_table.specs.Rows.{TextRow, dropped, is_white_space, kept, said_behind, then_again}
+use Rattle.rules_table.specs.Rows.{TextRow, dropped, is_white_space, kept, said_after, then_again}
 use Rattle.rules_table.specs.State.{State, character}
 use Rattle.rules_table.specs.Table.{text_row}
 use Rattle.rules_table_laws.specs.declared.text_class.TextClass.{TextClass}
@@ -12,13 +12,13 @@ use Rattle.rules_table_laws.specs.declared.text_class.TextClass.TheVariants as c
 -- it hands them on
 abbrev pub IsHandedOn : TextRow → Type 0
 IsHandedOn dropped = ⊥
-IsHandedOn (said_behind actions) = ⊥
+IsHandedOn (said_after actions) = ⊥
 IsHandedOn kept = ⊥
 IsHandedOn (then_again actions) = Unit {0}
 
 abbrev pub IsOfClass : TextClass → (is_space : Bool) → TextRow → Type 0
 IsOfClass classes.Dropped is_space row = row ≡ dropped
-IsOfClass classes.Inserted is_space row = row ≡ said_behind []
+IsOfClass classes.Inserted is_space row = row ≡ said_after []
 IsOfClass classes.InBody is_space row = row ≡ in_body_text is_space
 IsOfClass classes.Kept is_space row = row ≡ kept
 IsOfClass classes.HandedOn is_space row = IsHandedOn row

@@ -18,8 +18,8 @@ abbrev pub took : List ℕ → State → State
 took cs s = fold taken_character s cs
 
 -- characters are inserted; others than white space refuse framesets
-abbrev pub told : List ℕ → State → State
-told cs s = record s { frameset_ok = all_are is_white_space cs && s.frameset_ok; tree = said cs s.tree }
+abbrev pub emitted : List ℕ → State → State
+emitted cs s = record s { frameset_ok = all_are is_white_space cs && s.frameset_ok; tree = said cs s.tree }
 
 -- no line feed is left out next
 pub record IsCalm (s : State) : Type 0 where
@@ -41,8 +41,8 @@ pub record TextRuns : Type 0 where
   pub inserted : (s : State) (cs : List ℕ) → IsCalm s → AreByMode s → AreOfClass classes.Inserted cs s →
       took cs s ≡ act (say cs) s
   pub in_body : (s : State) (c : ℕ) (cs : List ℕ) → IsCalm s → AreByMode s → AreOfClass classes.InBody (c ∷ cs) s →
-      took (c ∷ cs) s ≡ told (c ∷ cs) (act reconstruct s)
+      took (c ∷ cs) s ≡ emitted (c ∷ cs) (act reconstruct s)
   pub foreign : (s : State) (cs : List ℕ) → IsCalm s → ((c : ℕ) → is_by_mode (character c) s ≡ false) →
-      took cs s ≡ told cs s
+      took cs s ≡ emitted cs s
   pub passed_on : (is_space : Bool) (s : State) (actions : List Action) → IsCalm s → AreByMode s →
       text_row s.mode is_space s ≡ then_again actions → IsPassedOn is_space s (act_all actions s)

@@ -1,6 +1,6 @@
 -- What is taken with foster parenting is taken as without it, between its beginning and its end.
-use Rattle.std.proofs.Common.{◌≡◌, ℕ, Bool, true, false, if◌then◌else◌, List, [], ◌∷◌, ◌++◌, Option, None, Some}
-use Rattle.std.proofs.Common.{codes, refl, sym, ap, ◌∙◌}
+use Rattle.std.proofs.Common.{◌≡◌, if◌then◌else◌, [], ◌∷◌, ◌++◌, ◌∙◌, Bool, List, None, Option, Some, ap, codes, false}
+use Rattle.std.proofs.Common.{refl, sym, true, ℕ}
 use Rattle.html_lexemes.specs.declared.token.Tag.{Tag}
 use Rattle.tree_names.specs.Wanted.{one}
 use Rattle.tree_names.specs.declared.group.TagGroup.{TagGroup}

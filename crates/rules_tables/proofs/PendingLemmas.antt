@@ -18,19 +18,19 @@ said_by is_space cs = if is_space then say cs ∷ []
     else foster true ∷ reconstruct ∷ say cs ∷ refuse_frameset ∷ foster false ∷ []
 
 -- They may be forgotten before they are said.
-told_by : (is_space : Bool) (cs : List ℕ) (s : State) →
+emitted_by : (is_space : Bool) (cs : List ℕ) (s : State) →
     act go_back (act_all (said_by is_space cs) (act forget_pending s))
     ≡ act_all (said_by is_space cs ++ forget_pending ∷ go_back ∷ []) s
 unfolding act
-told_by true cs s = refl
-told_by false cs s = refl
+emitted_by true cs s = refl
+emitted_by false cs s = refl
 
-pub pending_told : (cs : List ℕ) (old forgotten told new : State) → cs ≡ old.pending →
-    forgotten ≡ act forget_pending old → told ≡ act_all (pending_said cs) forgotten → new ≡ act go_back told →
+pub pending_emitted : (cs : List ℕ) (old forgotten emitted new : State) → cs ≡ old.pending →
+    forgotten ≡ act forget_pending old → emitted ≡ act_all (pending_said cs) forgotten → new ≡ act go_back emitted →
     new ≡ act_all (pending_said old.pending ++ forget_pending ∷ go_back ∷ []) old
-pending_told cs old forgotten told new is forgets tells ends =
-    ends ∙ (ap (act go_back) (tells ∙ ap (act_all (pending_said cs)) forgets)
-    ∙ (told_by (all_are is_white_space cs) cs old
+pending_emitted cs old forgotten emitted new is forgets emits ends =
+    ends ∙ (ap (act go_back) (emits ∙ ap (act_all (pending_said cs)) forgets)
+    ∙ (emitted_by (all_are is_white_space cs) cs old
     ∙ ap (λ (xs : List ℕ). act_all (pending_said xs ++ forget_pending ∷ go_back ∷ []) old) is))
 
 -- the two words for "all"

@@ -8,11 +8,11 @@ ghost use Rattle.tree_names.specs.Groups.{tag_group};
 ghost use Rattle.rules_table.specs.Actions.{act_all};
 ghost use Rattle.rules_table.specs.InCaption.{caption_closed, in_caption_end, in_caption_start, past_caption};
 
+use html_lexemes::{ParseFault, Tag};
+use rules_actions::{Flow, Parse};
 use rules_body::{in_body_end, in_body_start};
 use tree_forest::TreeSink;
-use html_lexemes::{ParseFault, Tag};
 use tree_names::{ElementSet, TagGroup};
-use rules_actions::{Flow, Parse};
 use tree_predicates::InsertionMode;
 
 /// A start tag.

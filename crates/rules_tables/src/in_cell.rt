@@ -9,11 +9,11 @@ ghost use Rattle.tree_names.specs.Wanted.{elements_of};
 ghost use Rattle.rules_table.specs.Actions.{act_all};
 ghost use Rattle.rules_table.specs.InCell.{cell_closed, in_cell_end, in_cell_start, outer_end, past_cell};
 
+use html_lexemes::{ParseFault, Tag};
+use rules_actions::{Flow, Parse};
 use rules_body::{in_body_end, in_body_start};
 use tree_forest::TreeSink;
-use html_lexemes::{ParseFault, Tag};
 use tree_names::{ElementSet, TagGroup};
-use rules_actions::{Flow, Parse};
 use tree_predicates::InsertionMode;
 
 /// A start tag.

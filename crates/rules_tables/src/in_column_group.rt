@@ -6,12 +6,12 @@ ghost use Rattle.rules_table.specs.InColumnGroup.{column_group_closed, in_column
 ghost use Rattle.rules_table.specs.InColumnGroup.{past_column_group};
 ghost use Rattle.rules_table.specs.Rows.{again};
 
-use rules_head::{html_start, in_head_end, in_head_start};
-use tree_forest::TreeSink;
 use html_lexemes::{ParseFault, Tag};
-use tree_names::{ElementSet, TagGroup};
 use rules_actions::{Flow, Parse};
+use rules_head::{html_start, in_head_end, in_head_start};
 use rules_table::Target;
+use tree_forest::TreeSink;
+use tree_names::{ElementSet, TagGroup};
 use tree_predicates::InsertionMode;
 
 /// A start tag.

@@ -10,10 +10,10 @@ ghost use Rattle.rules_table.specs.Actions.{act_all};
 ghost use Rattle.rules_table.specs.InRow.{in_row_end, in_row_start, past_row, row_closed};
 
 use crate::in_table::{in_table_end, in_table_start};
-use tree_forest::TreeSink;
 use html_lexemes::{ParseFault, Tag};
-use tree_names::{ElementSet, TagGroup};
 use rules_actions::{Flow, Parse};
+use tree_forest::TreeSink;
+use tree_names::{ElementSet, TagGroup};
 use tree_predicates::InsertionMode;
 
 /// A start tag.

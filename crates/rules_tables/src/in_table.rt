@@ -1,27 +1,26 @@
 //! The "in table" insertion mode (WHATWG HTML, 13.2.6.4.9).
-ghost use Rattle.std.specs.Prelude.{◌≡◌, IfErr, OnOk};
+ghost use Rattle.std.specs.Prelude.{◌≡◌, [], ◌∷◌, IfErr, OnOk, codes};
 ghost use Rattle.html_lexemes.specs.declared.fault.ParseFault.TheVariants.{Memory};
 ghost use Rattle.rules_actions.specs.Follows.{Follows};
 ghost use Rattle.rules_actions.specs.Parsed.{state_of};
 ghost use Rattle.rules_table.specs.Settling.{Ready};
 ghost use Rattle.tree_names.specs.Groups.{tag_group};
 ghost use Rattle.tree_names.specs.declared.group.TagGroup.TheVariants as groups;
-ghost use Rattle.std.specs.Prelude.{[], ◌∷◌, codes};
 ghost use Rattle.rules_table.specs.Actions.{act_all, go_to, insert_named};
 ghost use Rattle.rules_table.specs.InBody.{in_body_start};
 ghost use Rattle.rules_table.specs.InBodyEnds.{in_body_end};
-ghost use Rattle.rules_table.specs.InTable.{clear_to_table, form_in_table, in_table_end, in_table_start, input_in_table};
-ghost use Rattle.rules_table.specs.InTable.{table_closed};
+ghost use Rattle.rules_table.specs.InTable.{clear_to_table, form_in_table, in_table_end, in_table_start};
+ghost use Rattle.rules_table.specs.InTable.{input_in_table, table_closed};
 ghost use Rattle.rules_table.specs.Rows.{again, fostered};
 ghost use Rattle.tree_predicates.specs.declared.modes.InsertionMode.TheVariants.{InColumnGroup, InTableBody};
 
+use html_lexemes::{ParseFault, Tag};
+use rules_actions::{Flow, Parse};
 use rules_body::{in_body_end, in_body_start};
 use rules_head::{in_head_end, in_head_start};
-use tree_forest::TreeSink;
-use html_lexemes::{ParseFault, Tag};
-use tree_names::{ElementSet, TagGroup};
-use rules_actions::{Flow, Parse};
 use rules_table::Target;
+use tree_forest::TreeSink;
+use tree_names::{ElementSet, TagGroup};
 use tree_predicates::{InsertionMode, is_hidden};
 
 /// A start tag.

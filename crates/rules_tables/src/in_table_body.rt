@@ -1,11 +1,10 @@
 //! The "in table body" insertion mode (WHATWG HTML, 13.2.6.4.13).
-ghost use Rattle.std.specs.Prelude.{◌≡◌, IfErr, OnOk};
+ghost use Rattle.std.specs.Prelude.{◌≡◌, [], ◌∷◌, IfErr, OnOk, codes};
 ghost use Rattle.html_lexemes.specs.declared.fault.ParseFault.TheVariants.{Memory};
 ghost use Rattle.rules_actions.specs.Follows.{Follows};
 ghost use Rattle.rules_actions.specs.Parsed.{state_of};
 ghost use Rattle.rules_table.specs.Settling.{Ready};
 ghost use Rattle.tree_names.specs.Groups.{tag_group};
-ghost use Rattle.std.specs.Prelude.{[], ◌∷◌, codes};
 ghost use Rattle.tree_names.specs.declared.group.TagGroup.TheVariants as groups;
 ghost use Rattle.rules_table.specs.Actions.{act_all, go_to, insert_named};
 ghost use Rattle.rules_table.specs.InTableBody.{clear_to_body, in_table_body_end, in_table_body_start, past_table_body};
@@ -14,10 +13,10 @@ ghost use Rattle.rules_table.specs.Rows.{again};
 ghost use Rattle.tree_predicates.specs.declared.modes.InsertionMode.TheVariants.{InRow};
 
 use crate::in_table::{in_table_end, in_table_start};
-use tree_forest::TreeSink;
 use html_lexemes::{ParseFault, Tag};
-use tree_names::{ElementSet, TagGroup};
 use rules_actions::{Flow, Parse};
+use tree_forest::TreeSink;
+use tree_names::{ElementSet, TagGroup};
 use tree_predicates::InsertionMode;
 
 /// A start tag.

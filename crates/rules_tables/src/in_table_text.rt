@@ -1,20 +1,19 @@
 //! The "in table text" insertion mode (WHATWG HTML, 13.2.6.4.10): the text of a table, and what ends it.
-ghost use Rattle.std.specs.Prelude.{◌≡◌, IfErr, OnOk};
+ghost use Rattle.std.specs.Prelude.{◌≡◌, [], ◌∷◌, IfErr, OnOk, chars};
 ghost use Rattle.html_lexemes.specs.declared.fault.ParseFault.TheVariants.{Memory};
 ghost use Rattle.rules_actions.specs.Follows.{Follows};
 ghost use Rattle.rules_actions.specs.Parsed.{state_of};
 ghost use Rattle.rules_table.specs.Settling.{Ready};
-ghost use Rattle.std.specs.Prelude.{[], ◌∷◌, chars};
 ghost use Rattle.rules_table.specs.Actions.{act, act_all, forget_pending, go_to, hold_mode};
 ghost use Rattle.rules_table.specs.Asking.{all_are};
 ghost use Rattle.rules_table.specs.InTable.{in_table_text_other, pending_said};
 ghost use Rattle.rules_table.specs.Rows.{again, is_white_space};
 ghost use Rattle.tree_predicates.specs.declared.modes.InsertionMode.TheVariants.{InTableText};
 
-use tree_forest::TreeSink;
 use html_lexemes::{ParseFault, Text};
 use rules_actions::{Flow, Parse};
 use rules_table::actions_keep_what_is_ready;
+use tree_forest::TreeSink;
 use tree_predicates::InsertionMode;
 
 /// Text of a table: its characters are collected.

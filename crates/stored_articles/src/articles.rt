@@ -9,10 +9,10 @@ use article_writing::WriteArticle;
 use dom_writing::SerializeDom;
 use html_lexemes::Device;
 use page_config::Error as PageError;
-use test_fields::push_line;
 use std::alloc::Global;
 use std::str;
 use stored_lines::{push_elements, tree_of};
+use test_fields::push_line;
 use test_tree_lines::lines_of;
 
 /// The page of an article, its lines and the tree of the page, or the article's first fault. The first line has the

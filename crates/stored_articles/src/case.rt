@@ -3,8 +3,8 @@ use crate::values::{Line, Values};
 use anyhow::{Result, bail};
 use article_layout::LineOptions;
 use article_values::{Article, ArticleError};
-use test_fields::unescaped;
 use std::alloc::Global;
+use test_fields::unescaped;
 
 /// An article, or its first fault, and how it is laid out.
 #[derive(Drop)]

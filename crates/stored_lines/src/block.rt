@@ -2,8 +2,8 @@
 use anyhow::{Result, bail};
 use block_renderer::SubRenderer;
 use block_trait::Renderer;
-use test_fields::unescaped;
 use std::alloc::Global;
+use test_fields::unescaped;
 use text_decorators::TextDecorator;
 use text_pieces::{BlockError, WhiteSpace};
 

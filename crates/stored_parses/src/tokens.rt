@@ -4,8 +4,8 @@ use anyhow::{Result, bail};
 use html_lexemes::states::{RawKind, State};
 use html_lexemes::{LocalName, ReferenceTable};
 use html_tokenizer::{TokenizerOpts, read_pieces, read_plainly};
-use test_fields::{NO_TEXT, unescaped};
 use std::alloc::Global;
+use test_fields::{NO_TEXT, unescaped};
 use test_token_lines::{Listed, Listing, lines_of};
 use test_token_sinks::KeptTokens;
 

@@ -1,6 +1,6 @@
 -- The gaps that a function gives are those that the relation says.
-use Rattle.std.proofs.Common.{rules, ◌≡◌, ℕ, ◌+◌, ◌<◌, ◌≤◌, false, List, get_or, map, inl, inr, sym, subst}
-use Rattle.std.proofs.Common.{◌∙◌, arith, Contains, eqb}
+use Rattle.std.proofs.Common.{◌≡◌, ◌+◌, ◌<◌, ◌≤◌, ◌∙◌, Contains, List, arith, eqb, false, get_or, inl, inr, map, rules}
+use Rattle.std.proofs.Common.{subst, sym, ℕ}
 use Rattle.std.specs.List.{AllPairs, dedup}
 use Rattle.std.specs.List.Sorted.{IsNonDecreasingBy, IsSorted}
 use Rattle.std.specs.Ordering.{nat_cmp, is_lt}

@@ -1,6 +1,6 @@
 -- What the places of a table's cells keep.
-use Rattle.std.proofs.Common.{◌≡◌, ℕ, ◌+◌, ◌<◌, ◌≤◌, Bool, true, false, nat_lt, List, length}
-use Rattle.std.proofs.Common.{get_or, take, subst, refl, length-take, arith, All}
+use Rattle.std.proofs.Common.{◌≡◌, ◌+◌, ◌<◌, ◌≤◌, All, Bool, List, arith, false, get_or, length, length-take, nat_lt}
+use Rattle.std.proofs.Common.{refl, subst, take, true, ℕ}
 use Rattle.std.specs.List.Sorted.{IsNonDecreasingBy}
 use Rattle.std.proofs.lemmas.Bool.Decides.{nat_tests}
 use Rattle.std.proofs.lemmas.List.{get_or-take}
@@ -34,8 +34,8 @@ standing_apart cells placed h rows j k row column d lt k_lt reach above from to 
     by false e =
         let le = rows j k d (omega arith) k_lt in
         let same : (get_or placed j d).cell.row ≡ (get_or placed k d).cell.row = grind (arith, nat_tests) in
-        let behind = before_one (λ p. p.cell.row ≡ (get_or placed k d).cell.row → right_of p ≤ (get_or placed k d).left)
-        placed j k d lt k_lt (h.each k d k_lt).fits.behind same in
+        let trailing = before_one (λ p. p.cell.row ≡ (get_or placed k d).cell.row → right_of p ≤ (get_or placed k d).left)
+        placed j k d lt k_lt (h.each k d k_lt).fits.trailing same in
         omega arith
 
 -- a cell stands at the first column, or after a column where another stands: every gap is one before a covered place
@@ -44,16 +44,16 @@ pub place_tight : (cells : List Cell) (placed : List PlacedCell) → ArePlaced c
     (k column : ℕ) (d : PlacedCell) → k < length placed → column + 1 ≡ (get_or placed k d).left →
     IsVacant placed (get_or placed k d).cell.row column → ⊥
 place_tight cells placed h some tall k column d lt e vacant =
-    let before = (h.each k d lt).first column (record { behind = behind; free = free }) in omega arith
+    let before = (h.each k d lt).first column (record { trailing = trailing; free = free }) in omega arith
   where
     front : All (λ p. p.cell.row ≤ (get_or placed k d).cell.row → (get_or placed k d).cell.row < bottom_of p →
         p.left ≤ column → column < right_of p → ⊥) (take k placed)
     front = All-take (λ p. p.cell.row ≤ (get_or placed k d).cell.row → (get_or placed k d).cell.row < bottom_of p →
         p.left ≤ column → column < right_of p → ⊥) k placed vacant.vacant
 
-    behind : All (λ p. p.cell.row ≡ (get_or placed k d).cell.row → right_of p ≤ column) (take k placed)
-    behind j f j_lt same =
-        let r = (h.each k d lt).fits.behind j f j_lt same in
+    trailing : All (λ p. p.cell.row ≡ (get_or placed k d).cell.row → right_of p ≤ column) (take k placed)
+    trailing j f j_lt same =
+        let r = (h.each k d lt).fits.trailing j f j_lt same in
         let wide = All-take (λ p. 0 < p.cell.colspan) k placed some j f j_lt in
         let high = All-take (λ p. 0 < p.cell.rowspan) k placed tall j f j_lt in
         let v = front j f j_lt in

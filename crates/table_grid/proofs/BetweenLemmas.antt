@@ -1,7 +1,7 @@
 -- Between covers.
-use Rattle.std.proofs.Common.{◌≡◌, ℕ, zero, suc, ◌+◌, ◌-◌, ◌<◌, ◌≤◌, Bool, true, false, ◌&&◌, nat_le, nat_lt, List, []}
-use Rattle.std.proofs.Common.{◌∷◌, ◌++◌, length, subst, sym, ap, refl, ◌∙◌, append_assoc, append-nil, arith}
-use Rattle.std.proofs.Common.{All, Contains}
+use Rattle.std.proofs.Common.{◌≡◌, ◌+◌, ◌-◌, ◌<◌, ◌≤◌, ◌&&◌, [], ◌∷◌, ◌++◌, ◌∙◌, All, Bool, Contains, List, ap}
+use Rattle.std.proofs.Common.{append-nil, append_assoc, arith, false, length, nat_le, nat_lt, refl, subst, suc, sym}
+use Rattle.std.proofs.Common.{true, zero, ℕ}
 use Rattle.std.proofs.lemmas.Bool.Decides.{nat_tests}
 use Rattle.std.proofs.lemmas.List.Elements.{All-push, All-from_get_or, Contains-push, Contains-append_left}
 use Rattle.std.specs.List.{AllPairs}
@@ -201,8 +201,8 @@ between_more row covers own i next before n end old new newer ordered ordered_ow
     old_near : All (λ g. g.right ≤ (cover_at covers i).right) h.more
     old_near k d k_lt = let q = h.near k d k_lt in let ahead = h.ahead lt in let c = cover_held in omega arith
 
-    behind : n < length own → (cover_at covers i).right ≤ (cover_at own n).left
-    behind n_lt = ends_first (cover_at covers i) (cover_at own n) (apart i none lt n none n_lt) cover_held
+    trailing : n < length own → (cover_at covers i).right ≤ (cover_at own n).left
+    trailing n_lt = ends_first (cover_at covers i) (cover_at own n) (apart i none lt n none n_lt) cover_held
         (ordered_own.held n none n_lt) (a.own_after n_lt)
 
     with_gaps : (more : List Gap) → newer ≡ old ++ more →
@@ -216,7 +216,7 @@ between_more row covers own i next before n end old new newer ordered ordered_ow
       passed = λ k k_lt. rights_rise covers k i ordered (omega arith) lt;
       own_passed = λ k k_lt. let q = a.own_past k k_lt in let b = a.before in let c = cover_held in omega arith;
       ahead = λ more_lt. ordered.rising i (i + 1) (omega arith) more_lt;
-      own_ahead = behind;
+      own_ahead = trailing;
       begins = λ column e bare own_bare. held_column covers i column lt (let c = cover_held in omega arith)
           (omega arith) bare;
       more = more;

@@ -1,7 +1,6 @@
 -- Places of a given list are checked by computing.
-use Rattle.std.proofs.Common.{◌≡◌, ℕ, zero, suc, ◌+◌, ◌<◌, ◌≤◌, max, Bool, true, false, not, ◌&&◌, ◌||◌, nat_eq}
-use Rattle.std.proofs.Common.{nat_lt, nat_le, List, [], ◌∷◌, ◌++◌, append-nil, append_assoc, map, subst}
-use Rattle.std.proofs.Common.{sym, refl, arith, All}
+use Rattle.std.proofs.Common.{◌≡◌, ◌+◌, ◌<◌, ◌≤◌, ◌&&◌, ◌||◌, [], ◌∷◌, ◌++◌, All, Bool, List, append-nil, append_assoc}
+use Rattle.std.proofs.Common.{arith, false, map, max, nat_eq, nat_le, nat_lt, not, refl, subst, suc, sym, true, zero, ℕ}
 use Rattle.std.proofs.lemmas.Bool.Decides.{nat_tests}
 use Rattle.std.proofs.lemmas.List.Elements.{All-cons, All-nil, All-head, All-tail, All-push}
 use Rattle.table_grid.specs.declared.cell.Cell.{Cell}
@@ -37,10 +36,10 @@ left_true a b e = grind arith
 right_true : (a b : Bool) → (a && b) ≡ true → b ≡ true
 right_true a b e = grind arith
 
-behind_one : (p : PlacedCell) (c : Cell) (start : ℕ) → is_clear p c start ≡ true → p.cell.row ≡ c.row →
+after_one : (p : PlacedCell) (c : Cell) (start : ℕ) → is_clear p c start ≡ true → p.cell.row ≡ c.row →
     right_of p ≤ start
 unfolding is_clear
-behind_one p c start e same = grind (arith, nat_tests)
+after_one p c start e same = grind (arith, nat_tests)
 
 free_one : (p : PlacedCell) (c : Cell) (start column : ℕ) → is_clear p c start ≡ true → start ≤ column →
     column < start + c.colspan →
@@ -48,13 +47,13 @@ free_one : (p : PlacedCell) (c : Cell) (start column : ℕ) → is_clear p c sta
 unfolding is_clear
 free_one p c start column e from to above reach left right = grind (arith, nat_tests)
 
-fits_behind : (before : List PlacedCell) (c : Cell) (start : ℕ) → fits_at before c start ≡ true →
+fits_after : (before : List PlacedCell) (c : Cell) (start : ℕ) → fits_at before c start ≡ true →
     All (λ p. p.cell.row ≡ c.row → right_of p ≤ start) before
 unfolding fits_at
-fits_behind [] c start e = All-nil (λ p. p.cell.row ≡ c.row → right_of p ≤ start)
-fits_behind (p ∷ before) c start e = All-cons (λ p. p.cell.row ≡ c.row → right_of p ≤ start) p before
-    (behind_one p c start (left_true (is_clear p c start) (fits_at before c start) e))
-    (fits_behind before c start (right_true (is_clear p c start) (fits_at before c start) e))
+fits_after [] c start e = All-nil (λ p. p.cell.row ≡ c.row → right_of p ≤ start)
+fits_after (p ∷ before) c start e = All-cons (λ p. p.cell.row ≡ c.row → right_of p ≤ start) p before
+    (after_one p c start (left_true (is_clear p c start) (fits_at before c start) e))
+    (fits_after before c start (right_true (is_clear p c start) (fits_at before c start) e))
 
 fits_free : (before : List PlacedCell) (c : Cell) (start column : ℕ) → fits_at before c start ≡ true → start ≤ column →
     column < start + c.colspan →
@@ -73,8 +72,8 @@ clear_one : (p : PlacedCell) (c : Cell) (start : ℕ) → 0 < p.cell.colspan →
     p.left ≤ column → column < right_of p → ⊥) →
     is_clear p c start ≡ true
 unfolding is_clear
-clear_one p c start wide wide_too behind free = let meets = free (max start p.left) in
-    grind (arith, nat_tests, behind, meets)
+clear_one p c start wide wide_too trailing free = let meets = free (max start p.left) in
+    grind (arith, nat_tests, trailing, meets)
 
 fits_all : (before : List PlacedCell) (c : Cell) (start : ℕ) → All (λ p. 0 < p.cell.colspan) before → 0 < c.colspan →
     All (λ p. p.cell.row ≡ c.row → right_of p ≤ start) before →
@@ -82,15 +81,15 @@ fits_all : (before : List PlacedCell) (c : Cell) (start : ℕ) → All (λ p. 0 
     All (λ p. p.cell.row < c.row → c.row < bottom_of p → p.left ≤ column → column < right_of p → ⊥) before) →
     fits_at before c start ≡ true
 unfolding fits_at
-fits_all [] c start wide some behind free = refl
-fits_all (p ∷ before) c start wide some behind free =
+fits_all [] c start wide some trailing free = refl
+fits_all (p ∷ before) c start wide some trailing free =
     both (is_clear p c start) (fits_at before c start)
     (clear_one p c start (All-head (λ p. 0 < p.cell.colspan) p before wide) some
-    (All-head (λ p. p.cell.row ≡ c.row → right_of p ≤ start) p before behind)
+    (All-head (λ p. p.cell.row ≡ c.row → right_of p ≤ start) p before trailing)
     (λ column from to. All-head (λ p. p.cell.row < c.row → c.row < bottom_of p → p.left ≤ column → column < right_of p →
     ⊥) p before (free column from to)))
     (fits_all before c start (All-tail (λ p. 0 < p.cell.colspan) p before wide) some
-    (All-tail (λ p. p.cell.row ≡ c.row → right_of p ≤ start) p before behind)
+    (All-tail (λ p. p.cell.row ≡ c.row → right_of p ≤ start) p before trailing)
     (λ column from to. All-tail (λ p. p.cell.row < c.row → c.row < bottom_of p → p.left ≤ column → column < right_of p →
     ⊥) p before (free column from to)))
   where
@@ -119,7 +118,7 @@ stands : (before : List PlacedCell) (c : Cell) (start : ℕ) → All (λ p. 0 < 
     fits_at before c start ≡ true → none_before before c start ≡ true → IsPlace before c start
 stands before c start wide some fits none = record {
   fits = record {
-    behind = fits_behind before c start fits;
+    trailing = fits_after before c start fits;
     free = λ column from to. record { free = fits_free before c start column fits from to };
   };
   first = λ earlier h. by earlier h (nat_lt earlier start) refl;
@@ -127,7 +126,7 @@ stands before c start wide some fits none = record {
   where
     by : (earlier : ℕ) → Fits before c earlier → (b : Bool) → nat_lt earlier start ≡ b → start ≤ earlier
     by earlier h true e = absurd (none_fits before c start none earlier (grind (arith, nat_tests))
-        (fits_all before c earlier wide some h.behind (λ column from to. (h.free column from to).free)))
+        (fits_all before c earlier wide some h.trailing (λ column from to. (h.free column from to).free)))
     by earlier h false e = grind (arith, nat_tests)
 
 stand_more : (cells : List Cell) (before rest : List PlacedCell) → ArePlaced cells before →

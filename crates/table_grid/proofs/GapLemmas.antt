@@ -1,7 +1,6 @@
 -- Gaps among covers are gaps among cells, and stay so when later rows are placed.
-use Rattle.std.proofs.Common.{◌≡◌, ℕ, ◌+◌, ◌-◌, ◌<◌, ◌≤◌, Bool, true, false, nat_lt, List, []}
-use Rattle.std.proofs.Common.{◌++◌, length, get_or, take, subst, sym, ap, refl, ◌∙◌, length-append}
-use Rattle.std.proofs.Common.{inl, inr, arith, All, Contains}
+use Rattle.std.proofs.Common.{◌≡◌, ◌+◌, ◌-◌, ◌<◌, ◌≤◌, [], ◌++◌, ◌∙◌, All, Bool, Contains, List, ap, arith, false}
+use Rattle.std.proofs.Common.{get_or, inl, inr, length, length-append, nat_lt, refl, subst, sym, take, true, ℕ}
 use Rattle.std.proofs.lemmas.Bool.Decides.{nat_tests}
 use Rattle.std.proofs.lemmas.List.{get_or-take, get_or_append_left, get_or-append_right}
 use Rattle.std.specs.List.{AllPairs}
@@ -11,7 +10,7 @@ use Rattle.table_grid.specs.declared.covers.Cover.{Cover}
 use Rattle.table_grid.specs.declared.gaps.Gap.{Gap}
 use Rattle.table_grid.specs.declared.cell.PlacedCell.{PlacedCell}
 use Rattle.table_grid.specs.Places.{right_of, bottom_of, IsFree}
-use Rattle.table_grid.specs.Covers.{Misses, IsBehindRow}
+use Rattle.table_grid.specs.Covers.{Misses, IsAfterRow}
 use Rattle.table_grid.specs.Gaps.{IsVacant, IsGap, BeginsIn, IsBefore, AreGaps, gap_of}
 use Rattle.table_grid.specs.RowGaps.{IsBare, IsGapIn, AreGapsIn}
 
@@ -22,7 +21,7 @@ misses_bare : (covers : List Cover) (column : ℕ) → Misses covers column → 
 misses_bare covers column h = record { bare = h.misses }
 
 vacant_bare : (row : ℕ) (cells : List Cell) (covers own : List Cover) (old placed : List PlacedCell) (column : ℕ) →
-    IsBehindRow cells row covers own old placed → IsVacant placed row column →
+    IsAfterRow cells row covers own old placed → IsVacant placed row column →
     IsBare covers column × IsBare own column
 vacant_bare row cells covers own old placed column h v =
     let both = h.fewer column
@@ -30,14 +29,14 @@ vacant_bare row cells covers own old placed column h v =
     (misses_bare covers column both.0, misses_bare own column both.1)
 
 bare_vacant : (row : ℕ) (cells : List Cell) (covers own : List Cover) (old placed : List PlacedCell) (column : ℕ) →
-    IsBehindRow cells row covers own old placed → IsBare covers column → IsBare own column →
+    IsAfterRow cells row covers own old placed → IsBare covers column → IsBare own column →
     IsVacant placed row column
 bare_vacant row cells covers own old placed column h a b =
     let all = h.more column (bare_misses covers column a) (bare_misses own column b) in
     record { vacant = λ k d lt upper reach. all.all k d lt reach }
 
 gap_out : (row : ℕ) (cells : List Cell) (covers own : List Cover) (old placed : List PlacedCell) (left right : ℕ) →
-    IsBehindRow cells row covers own old placed → IsGapIn covers own left right → IsGap placed row left right
+    IsAfterRow cells row covers own old placed → IsGapIn covers own left right → IsGap placed row left right
 gap_out row cells covers own old placed left right h g = record {
   some = g.some;
   vacant = λ column from to. let both = g.bare column from to in
@@ -48,7 +47,7 @@ gap_out row cells covers own old placed left right h g = record {
 }
 
 gap_in : (row : ℕ) (cells : List Cell) (covers own : List Cover) (old placed : List PlacedCell) (left right : ℕ) →
-    IsBehindRow cells row covers own old placed → IsGap placed row left right → IsGapIn covers own left right
+    IsAfterRow cells row covers own old placed → IsGap placed row left right → IsGapIn covers own left right
 gap_in row cells covers own old placed left right h g = record {
   some = g.some;
   bare = λ column from to. vacant_bare row cells covers own old placed column h
@@ -155,7 +154,7 @@ pairs_append R xs ys hx hy cross i j d lt j_lt = by (nat_lt i (length xs)) (nat_
 -- one more row
 pub gaps_more : (row : ℕ) (cells : List Cell) (covers own : List Cover) (old placed : List PlacedCell)
     (old_gaps gaps : List Gap) → length old < length placed →
-    All (λ p. p.cell.row < row) old → IsBehindRow cells row covers own old placed → AreGaps old old_gaps →
+    All (λ p. p.cell.row < row) old → IsAfterRow cells row covers own old placed → AreGaps old old_gaps →
     AreGapsIn row covers own old_gaps gaps → AreGaps placed gaps
 gaps_more row cells covers own old placed old_gaps gaps grows above h was now = record {
   begin = subst (All (λ g. BeginsIn placed g.row)) (sym now.whole)
@@ -220,7 +219,7 @@ gaps_more row cells covers own old placed old_gaps gaps grows above h was now = 
         (Contains-append_right old_gaps now.more (gap_of row left right) c))
 
 pub row_grows : (row : ℕ) (cells : List Cell) (covers own : List Cover) (old placed : List PlacedCell) (d : Cell) →
-    IsBehindRow cells row covers own old placed → length old < length cells →
+    IsAfterRow cells row covers own old placed → length old < length cells →
     row ≡ (get_or cells (length old) d).row → length old < length placed
 row_grows row cells covers own old placed d h lt at = by (nat_lt (length old) (length placed)) refl
   where

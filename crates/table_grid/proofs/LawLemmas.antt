@@ -42,11 +42,11 @@ no_slot_twice cells placed rows h j k row column lt k_lt one other from to =
     standing_apart cells placed h (rows_placed cells placed h rows) j k row column nobody lt k_lt one.reach other.upper
     from.from from.to to.from to.to
 
-pub behind_cells : (cells : List Cell) (placed : List PlacedCell) → All (λ c. 0 < c.colspan) cells →
+pub after_cells : (cells : List Cell) (placed : List PlacedCell) → All (λ c. 0 < c.colspan) cells →
     All (λ c. 0 < c.rowspan) cells → ArePlaced cells placed →
     (k column : ℕ) → k < length placed → column + 1 ≡ (placed_at placed k).left →
     IsVacant placed (placed_at placed k).cell.row column → ⊥
-behind_cells cells placed some tall h k column lt e vacant =
+after_cells cells placed some tall h k column lt e vacant =
     place_tight cells placed h (all_placed (λ c. 0 < c.colspan) cells placed h some)
     (all_placed (λ c. 0 < c.rowspan) cells placed h tall) k column nobody lt e vacant
 

@@ -1,11 +1,11 @@
 -- Covers put after one another.
-use Rattle.std.proofs.Common.{ℕ, ◌+◌, ◌-◌, ◌^◌, ◌<◌, ◌≤◌, List, [], length, get_or}
-use Rattle.std.proofs.Common.{take, take_all, subst, sym, ◌∙◌, length-take, arith, All}
+use Rattle.std.proofs.Common.{◌+◌, ◌-◌, ◌^◌, ◌<◌, ◌≤◌, [], ◌∙◌, All, List, arith, get_or, length, length-take, subst}
+use Rattle.std.proofs.Common.{sym, take, take_all, ℕ}
 use Rattle.std.proofs.lemmas.List.{get_or-take}
 use Rattle.std.proofs.lemmas.List.Elements.{All-more}
 use Rattle.table_grid.specs.declared.covers.Cover.{Cover}
-use Rattle.table_grid.specs.Covers.{cover_at, AreOrdered, EndBefore, Misses, MissesOne, AreApart}
-use Rattle.table_grid.specs.Covers.{IsMergedTo, ArePushed, AreMerged}
+use Rattle.table_grid.specs.Covers.{AreApart, AreMerged, AreOrdered, ArePushed, EndBefore, IsMergedTo, Misses}
+use Rattle.table_grid.specs.Covers.{MissesOne, cover_at}
 use Rattle.table_grid.proofs.WalkLemmas.{none}
 
 pub misses_more : (covers : List Cover) (n column : ℕ) → n < length covers → Misses (take n covers) column →
@@ -64,7 +64,7 @@ pushed_more covers at n limit old new newer ordered apart lt left h whole ends f
     within = omega arith;
     whole = whole;
     ends = end_weaker newer (cover_at covers n).right limit (apart n none lt left) ends;
-    behind = λ next. end_weaker newer (cover_at covers n).right (cover_at covers (n + 1)).left
+    trailing = λ next. end_weaker newer (cover_at covers n).right (cover_at covers (n + 1)).left
         (ordered.rising n (n + 1) (omega arith) next) ends;
   };
   passed = let before = h.passed in omega arith;
@@ -120,7 +120,7 @@ pub merging_to : (covers own : List Cover) (i j : ℕ) (merged : List Cover) →
     IsMerging covers own i j merged →
     IsMergedTo covers i (cover_at own j).left merged
 merging_to covers own i j merged lt h =
-    record { within = h.within; whole = h.whole; ends = h.next_own lt; behind = h.next }
+    record { within = h.within; whole = h.whole; ends = h.next_own lt; trailing = h.next }
 
 pub merging_more : (covers own : List Cover) (i n j : ℕ) (merged pushed newer : List Cover) →
     AreOrdered covers → AreOrdered own →
@@ -135,7 +135,7 @@ merging_more covers own i n j merged pushed newer ordered ordered_own apart lt h
     record {
       within = p.merged.within;
       whole = whole;
-      next = λ n_lt. end_weaker newer (cover_at own j).right (cover_at covers n).left (behind n_lt) ends;
+      next = λ n_lt. end_weaker newer (cover_at own j).right (cover_at covers n).left (trailing n_lt) ends;
       next_own = λ j_lt. end_weaker newer (cover_at own j).right (cover_at own (j + 1)).left
           (ordered_own.rising j (j + 1) (omega arith) j_lt) ends;
       fewer = λ column a b. let both = misses_less own j column lt b in
@@ -145,8 +145,8 @@ merging_more covers own i n j merged pushed newer ordered ordered_own apart lt h
       ends = λ bound a b. end_weaker newer (cover_at own j).right bound (b.within j none lt) ends;
     }
   where
-    behind : n < length covers → (cover_at own j).right ≤ (cover_at covers n).left
-    behind n_lt = ends_first (cover_at own j) (cover_at covers n)
+    trailing : n < length covers → (cover_at own j).right ≤ (cover_at covers n).left
+    trailing n_lt = ends_first (cover_at own j) (cover_at covers n)
         (record { apart = λ column from to left right. (apart n none n_lt j none lt).apart column left right from to })
         (ordered_own.held j none lt) (ordered.held n none n_lt) (over n_lt)
 
@@ -157,7 +157,7 @@ pub merged_start : (covers own : List Cover) (i j : ℕ) (merged : List Cover) �
     EndBefore covers (2 ^ 128 - 1) → EndBefore own (2 ^ 128 - 1) → IsMerging covers own i j merged →
     IsMergedTo covers i (2 ^ 128 - 1) merged
 merged_start covers own i j merged small small_own h =
-    record { within = h.within; whole = h.whole; ends = h.ends (2 ^ 128 - 1) small small_own; behind = h.next }
+    record { within = h.within; whole = h.whole; ends = h.ends (2 ^ 128 - 1) small small_own; trailing = h.next }
 
 pub merged_end : (covers own : List Cover) (i n j : ℕ) (merged pushed : List Cover) → AreOrdered covers →
     EndBefore covers (2 ^ 128 - 1) → length own ≤ j → IsMerging covers own i j merged →

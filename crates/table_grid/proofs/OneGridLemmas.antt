@@ -1,7 +1,5 @@
 -- A table has one grid.
-use Rattle.std.proofs.Common.{◌≡◌, ℕ, ◌<◌, List}
-use Rattle.std.proofs.Common.{map, filter, subst, sym, ap, ◌∙◌}
-use Rattle.std.proofs.Common.{arith}
+use Rattle.std.proofs.Common.{◌≡◌, ◌<◌, ◌∙◌, List, ap, arith, filter, map, subst, sym, ℕ}
 use Rattle.table_grid.specs.declared.cell.Cell.{Cell}
 use Rattle.table_grid.specs.declared.cell.PlacedCell.{PlacedCell}
 use Rattle.table_grid.specs.Places.{ArePlaced}
@@ -12,8 +10,8 @@ use Rattle.table_grid.proofs.OrderedLemmas.{same_ordered}
 use Rattle.table_grid.specs.declared.columns.Column.{Column}
 use Rattle.table_grid.specs.declared.grid.GridCell.{GridCell}
 use Rattle.table_grid.specs.declared.grid.GridGap.{GridGap}
-use Rattle.table_grid.specs.Grid.{AreEdges, has_size, all_columns, spans_of, rows_with_cells, grid_cell, gap_left}
-use Rattle.table_grid.specs.Grid.{IsGrid}
+use Rattle.table_grid.specs.Grid.{AreEdges, IsGrid, all_columns, gap_left, grid_cell, has_size, rows_with_cells}
+use Rattle.table_grid.specs.Grid.{spans_of}
 
 pub one_edges : (placed : List PlacedCell) (edges other : List ℕ) → AreEdges placed edges → AreEdges placed other →
     edges ≡ other

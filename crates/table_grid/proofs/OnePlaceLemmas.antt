@@ -1,6 +1,6 @@
 -- Cells have one way to be placed, and one list of gaps.
-use Rattle.std.proofs.Common.{◌≡◌, ℕ, zero, suc, ◌+◌, ◌<◌, ◌≤◌, List, length, get_or, take}
-use Rattle.std.proofs.Common.{take_all, inl, inr, subst, sym, ap, refl, ◌∙◌, arith}
+use Rattle.std.proofs.Common.{◌≡◌, ◌+◌, ◌<◌, ◌≤◌, ◌∙◌, List, ap, arith, get_or, inl, inr, length, refl, subst, suc, sym}
+use Rattle.std.proofs.Common.{take, take_all, zero, ℕ}
 use Rattle.std.specs.List.{AllPairs}
 use Rattle.std.proofs.lemmas.List.{get_or-map, length-map, take_more_same}
 use Rattle.std.proofs.lemmas.List.Elements.{All-contains}

@@ -1,6 +1,6 @@
 -- Two lists in order with the same elements are one.
-use Rattle.std.proofs.Common.{◌≡◌, ℕ, zero, suc, ◌<◌, List, [], ◌∷◌, length, get_or}
-use Rattle.std.proofs.Common.{inl, inr, ◌⊎◌, subst, sym, ap, refl, ◌∙◌, arith, Contains}
+use Rattle.std.proofs.Common.{◌≡◌, ◌<◌, [], ◌∷◌, ◌⊎◌, ◌∙◌, Contains, List, ap, arith, get_or, inl, inr, length, refl}
+use Rattle.std.proofs.Common.{subst, suc, sym, zero, ℕ}
 use Rattle.std.specs.List.{AllPairs}
 
 pub contains_here : {X : Type 0} (x : X) (xs : List X) → Contains (x ∷ xs) x

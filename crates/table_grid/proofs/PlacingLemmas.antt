@@ -1,7 +1,6 @@
 -- The places that a function gives are those that the relation says.
-use Rattle.std.proofs.Common.{◌≡◌, ℕ, ◌+◌, ◌<◌, ◌≤◌, max, Bool, true, false, not, nat_lt, ◌&&◌, List, []}
-use Rattle.std.proofs.Common.{◌∷◌, ◌++◌, get_or, append_assoc, append-nil, refl, sym, ap, subst, ◌∙◌, arith}
-use Rattle.std.proofs.Common.{All}
+use Rattle.std.proofs.Common.{◌≡◌, ◌+◌, ◌<◌, ◌≤◌, ◌&&◌, [], ◌∷◌, ◌++◌, ◌∙◌, All, Bool, List, ap, append-nil}
+use Rattle.std.proofs.Common.{append_assoc, arith, false, get_or, max, nat_lt, not, refl, subst, sym, true, ℕ}
 use Rattle.std.specs.List.{list_all, list_any}
 use Rattle.std.proofs.lemmas.Bool.{false_from_ne_true}
 use Rattle.std.proofs.lemmas.Bool.Decides.{nat_tests}
@@ -11,7 +10,7 @@ use Rattle.std.proofs.lemmas.List.Sums.{AllPass-from_list_all, list_all-from_All
 use Rattle.table_grid.specs.declared.cell.Cell.{Cell}
 use Rattle.table_grid.specs.declared.cell.PlacedCell.{PlacedCell}
 use Rattle.table_grid.specs.Places.{right_of, bottom_of, Fits, IsPlace, ArePlaced}
-use Rattle.table_grid.specs.Placing.{end_of, covers_some, is_passed, may_begin, place_of, placed_cell, placed_behind}
+use Rattle.table_grid.specs.Placing.{covers_some, end_of, is_passed, may_begin, place_of, placed_after, placed_cell}
 use Rattle.table_grid.specs.Placing.{places_of}
 use Rattle.table_grid.proofs.FirstLemmas.{IsFirst, first_is}
 use Rattle.table_grid.proofs.RowLemmas.{placed_more}
@@ -61,7 +60,7 @@ module _ (before : List PlacedCell) (cell : Cell) where
       × (not (list_any (covers_here start) before) ≡ true) =
       both_tests (list_all (is_passed cell.row start) before) (not (list_any (covers_here start) before)) e in
       record {
-        behind = All-weaker (λ p. is_passed cell.row start p ≡ true) (λ p. p.cell.row ≡ cell.row → right_of p ≤ start)
+        trailing = All-weaker (λ p. is_passed cell.row start p ≡ true) (λ p. p.cell.row ≡ cell.row → right_of p ≤ start)
             (λ p t. passed cell.row start p t) before
             (AllPass-from_list_all (is_passed cell.row start) before both.0);
         free = λ column from to. record {
@@ -78,7 +77,7 @@ module _ (before : List PlacedCell) (cell : Cell) where
       all : list_all (is_passed cell.row start) before ≡ true
       all = list_all-from_AllPass (is_passed cell.row start) before
           (All-weaker (λ p. p.cell.row ≡ cell.row → right_of p ≤ start) (λ p. is_passed cell.row start p ≡ true)
-          (λ p t. passes cell.row start p t) before h.behind)
+          (λ p t. passes cell.row start p t) before h.trailing)
 
       none : list_any (covers_here start) before ≡ false
       none = list_any_none (covers_here start) before
@@ -86,9 +85,9 @@ module _ (before : List PlacedCell) (cell : Cell) where
           (λ e. let c = covered_one cell.row start (start + cell.colspan) (get_or before k d) e in
           (h.free (max (get_or before k d).left start) (omega arith) c.1).free k d lt c.0.0 c.0.1 c.0.2 c.0.3))
 
-  fits_behind_all : Fits before cell (end_of before)
-  fits_behind_all = record {
-    behind = λ k d lt e. ends_within before k d lt;
+  fits_after_all : Fits before cell (end_of before)
+  fits_after_all = record {
+    trailing = λ k d lt e. ends_within before k d lt;
     free = λ column from to. record {
       free = λ k d lt above reach left right. let w = ends_within before k d lt in absurd (omega arith);
     };
@@ -109,7 +108,7 @@ module _ (before : List PlacedCell) (cell : Cell) where
           here false e =
               let within = h.within in
               let same : end_of before ≡ start = grind (arith, nat_tests) in
-              subst (Fits before cell) same fits_behind_all
+              subst (Fits before cell) same fits_after_all
 
           no_earlier : (earlier : ℕ) → Fits before cell earlier → (b : Bool) → nat_lt earlier start ≡ b →
               start ≤ earlier
@@ -119,15 +118,15 @@ module _ (before : List PlacedCell) (cell : Cell) where
               absurd (clash (may_begin before cell earlier) fails may)
           no_earlier earlier f false e = grind (arith, nat_tests)
 
-behind_placed : (done : List Cell) (before : List PlacedCell) (cells : List Cell) → ArePlaced done before →
-    ArePlaced (done ++ cells) (placed_behind before cells)
-behind_placed done before [] h = subst (λ (cs : List Cell). ArePlaced cs before) (sym (append-nil done)) h
-behind_placed done before (cell ∷ cells) h =
-    subst (λ (cs : List Cell). ArePlaced cs (placed_behind (before ++ placed_cell before cell ∷ []) cells))
+after_placed : (done : List Cell) (before : List PlacedCell) (cells : List Cell) → ArePlaced done before →
+    ArePlaced (done ++ cells) (placed_after before cells)
+after_placed done before [] h = subst (λ (cs : List Cell). ArePlaced cs before) (sym (append-nil done)) h
+after_placed done before (cell ∷ cells) h =
+    subst (λ (cs : List Cell). ArePlaced cs (placed_after (before ++ placed_cell before cell ∷ []) cells))
     (append_assoc done (cell ∷ []) cells)
-    (behind_placed (done ++ cell ∷ []) (before ++ placed_cell before cell ∷ []) cells
+    (after_placed (done ++ cell ∷ []) (before ++ placed_cell before cell ∷ []) cells
     (placed_more done before cell (place_of before cell) h (place_is before cell)))
 
 pub are_placed : (cells : List Cell) → ArePlaced cells (places_of cells)
 unfolding places_of
-are_placed cells = behind_placed [] [] cells (record { same = refl; each = λ k d lt. absurd (omega arith) })
+are_placed cells = after_placed [] [] cells (record { same = refl; each = λ k d lt. absurd (omega arith) })

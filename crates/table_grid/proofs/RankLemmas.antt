@@ -1,7 +1,6 @@
 -- Ranks among rising numbers.
-use Rattle.std.proofs.Common.{◌≡◌, ℕ, zero, suc, ◌<◌, ◌≤◌, Bool, true, false, cond, nat_lt, List, [], ◌∷◌}
-use Rattle.std.proofs.Common.{length, get_or, subst, sym, refl, ◌∙◌, arith}
-use Rattle.std.proofs.Common.{Contains, eqb, IsPermutation}
+use Rattle.std.proofs.Common.{◌≡◌, ◌<◌, ◌≤◌, [], ◌∷◌, ◌∙◌, Bool, Contains, IsPermutation, List, arith, cond, eqb, false}
+use Rattle.std.proofs.Common.{get_or, length, nat_lt, refl, subst, suc, sym, true, zero, ℕ}
 use Rattle.std.specs.List.{dedup}
 use Rattle.std.specs.List.Sorted.{IsStrictlyIncreasing, IsSorted}
 use Rattle.std.specs.Ordering.{nat_cmp}

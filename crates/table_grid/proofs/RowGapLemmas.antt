@@ -1,6 +1,6 @@
 -- The gaps of one row that a function gives.
-use Rattle.std.proofs.Common.{◌≡◌, ℕ, zero, suc, ◌+◌, ◌-◌, ◌<◌, ◌≤◌, Bool, true, false, not, ◌&&◌, nat_le, nat_lt}
-use Rattle.std.proofs.Common.{if◌then◌else◌, List, get_or, refl, sym, subst, ap, ◌∙◌, arith, All, Contains}
+use Rattle.std.proofs.Common.{◌≡◌, ◌+◌, ◌-◌, ◌<◌, ◌≤◌, ◌&&◌, if◌then◌else◌, ◌∙◌, All, Bool, Contains, List, ap, arith}
+use Rattle.std.proofs.Common.{false, get_or, nat_le, nat_lt, not, refl, subst, suc, sym, true, zero, ℕ}
 use Rattle.std.specs.List.{AllPairs, filter, list_any, range_with_len}
 use Rattle.std.proofs.lemmas.Bool.{false_from_ne_true, true_from_ne_false}
 use Rattle.std.proofs.lemmas.Bool.Decides.{nat_tests}
@@ -9,8 +9,7 @@ use Rattle.std.proofs.lemmas.List.Folds.{list_any_none, list_any_at}
 use Rattle.table_grid.specs.declared.cell.PlacedCell.{PlacedCell}
 use Rattle.table_grid.specs.Gaps.{IsVacant, IsGap, gap_of}
 use Rattle.table_grid.specs.Places.{right_of, bottom_of, IsFree}
-use Rattle.table_grid.specs.Placing.{end_of, covers_some, takes, is_vacant, vacant_from, ends_gap, gap_before}
-use Rattle.table_grid.specs.Placing.{gaps_in}
+use Rattle.table_grid.specs.Placing.{covers_some, end_of, ends_gap, gap_before, gaps_in, is_vacant, takes, vacant_from}
 use Rattle.table_grid.proofs.NumberLemmas.{contains_map, map_pairs, numbers_rise, number_in}
 use Rattle.table_grid.proofs.PlacingLemmas.{ends_within, covers_one, covered_one, no_test, clash, both_tests}
 
@@ -141,14 +140,14 @@ module _ (placed : List PlacedCell) (row : ℕ) where
       by : (b : Bool) → nat_lt right (end_of placed) ≡ b → right < end_of placed
       by true e = grind (arith, nat_tests)
       by false e =
-          let behind : end_of placed ≤ right = grind (arith, nat_tests) in
+          let trailing : end_of placed ≤ right = grind (arith, nat_tests) in
           absurd (g.ends (record {
             free = λ k d lt above reach from to. let w = ends_within placed k d lt in absurd (omega arith);
           }))
 
   -- a gap begins after the one before it
-  gap_behind : (m n : ℕ) → m < n → ends_gap placed row m ≡ true → m ≤ vacant_from placed row n
-  gap_behind m n lt e = by (nat_le m (vacant_from placed row n)) refl
+  gap_after : (m n : ℕ) → m < n → ends_gap placed row m ≡ true → m ≤ vacant_from placed row n
+  gap_after m n lt e = by (nat_le m (vacant_from placed row n)) refl
     where
       by : (b : Bool) → nat_le m (vacant_from placed row n) ≡ b → m ≤ vacant_from placed row n
       by true f = grind (arith, nat_tests)
@@ -168,7 +167,7 @@ module _ (placed : List PlacedCell) (row : ℕ) where
 
   pub row_order : AllPairs (λ g h. g.right ≤ h.left) (gaps_in placed row)
   row_order = map_pairs (λ g h. g.right ≤ h.left) (gap_before placed row) ends 0
-      (λ i j d lt j_lt. gap_behind (get_or ends i d) (get_or ends j d)
+      (λ i j d lt j_lt. gap_after (get_or ends i d) (get_or ends j d)
       (numbers_rise (ends_gap placed row) (end_of placed) i j d lt j_lt) (passed i d (omega arith)))
 
   pub row_all : (left right : ℕ) → IsGap placed row left right → Contains (gaps_in placed row) (gap_of row left right)

@@ -1,6 +1,6 @@
 -- A row, cell by cell.
-use Rattle.std.proofs.Common.{◌≡◌, ℕ, ◌+◌, ◌-◌, ◌^◌, ◌<◌, ◌≤◌, max, List, [], ◌∷◌, ◌++◌, length, get_or}
-use Rattle.std.proofs.Common.{take, take_all, subst, sym, ap, refl, ◌∙◌, length-append, arith, All}
+use Rattle.std.proofs.Common.{◌≡◌, ◌+◌, ◌-◌, ◌^◌, ◌<◌, ◌≤◌, [], ◌∷◌, ◌++◌, ◌∙◌, All, List, ap, arith, get_or, length}
+use Rattle.std.proofs.Common.{length-append, max, refl, subst, sym, take, take_all, ℕ}
 use Rattle.std.proofs.lemmas.List.{take_more, get_or_append_left, get_or_push, take-append-le, map-append}
 use Rattle.std.proofs.lemmas.List.Elements.{All-push}
 use borrow.Author.Count.{below_more}
@@ -8,10 +8,8 @@ use Rattle.table_grid.specs.declared.cell.Cell.{Cell}
 use Rattle.table_grid.specs.declared.covers.Cover.{Cover}
 use Rattle.table_grid.specs.declared.cell.PlacedCell.{PlacedCell}
 use Rattle.table_grid.specs.Places.{cell_of, right_of, bottom_of, IsFree, IsPlace, ArePlaced}
-use Rattle.table_grid.specs.Covers.{cover_at, cover_of, AreOrdered, ArePassed, EndBefore}
-use Rattle.table_grid.specs.Covers.{IsFirstFree, Misses, MissesOne, CellMisses, AllMiss, AreApart, farthest}
-use Rattle.table_grid.specs.Covers.{IsBetweenRows}
-use Rattle.table_grid.specs.Covers.{IsBehindRow}
+use Rattle.table_grid.specs.Covers.{AllMiss, AreApart, AreOrdered, ArePassed, CellMisses, EndBefore, IsAfterRow}
+use Rattle.table_grid.specs.Covers.{IsBetweenRows, IsFirstFree, Misses, MissesOne, cover_at, cover_of, farthest}
 use Rattle.table_grid.proofs.WalkLemmas.{none}
 use Rattle.table_grid.proofs.MergeLemmas.{end_weaker}
 
@@ -62,20 +60,20 @@ placed_more cells placed cell left h place = record {
 
 -- what holds while a row is placed
 pub record IsInRow (cells : List Cell) (row : ℕ) (covers own : List Cover) (placed : List PlacedCell)
-    (passed behind : ℕ) : Type 0 where
+    (passed trailing : ℕ) : Type 0 where
   pub within : length placed ≤ length cells
   pub so_far : ArePlaced (take (length placed) cells) placed
   pub upper : All (λ p. p.cell.row ≤ row) placed
   pub bounded : All (λ p. right_of p ≤ farthest (length placed)) placed
-  pub behind_all : All (λ p. p.cell.row ≡ row → right_of p ≤ behind) placed
-  pub behind_least : (start : ℕ) → All (λ p. p.cell.row ≡ row → right_of p ≤ start) placed → behind ≤ start
+  pub after_all : All (λ p. p.cell.row ≡ row → right_of p ≤ trailing) placed
+  pub after_least : (start : ℕ) → All (λ p. p.cell.row ≡ row → right_of p ≤ start) placed → trailing ≤ start
   pub free : (column : ℕ) → Misses covers column → IsFree placed row column
   pub taken : (column : ℕ) → IsFree placed row column → Misses covers column
-  pub is_passed : ArePassed covers passed behind
+  pub is_passed : ArePassed covers passed trailing
   pub covers_end : EndBefore covers (farthest (length placed))
-  pub near : behind ≤ farthest (length placed)
+  pub near : trailing ≤ farthest (length placed)
   pub ordered : AreOrdered own
-  pub ends : EndBefore own behind
+  pub ends : EndBefore own trailing
   pub apart : All (λ c. All (AreApart c) own) covers
   pub fewer : (column : ℕ) → AllMiss placed row column → Misses covers column × Misses own column
   pub more : (column : ℕ) → Misses covers column → Misses own column → AllMiss placed row column
@@ -91,8 +89,8 @@ row_first cells row covers placed h = record {
   so_far = h.so_far;
   upper = λ k d lt. let a = h.above k d lt in omega arith;
   bounded = h.bounded;
-  behind_all = λ k d lt e. let a = h.above k d lt in absurd (omega arith);
-  behind_least = λ start a. omega arith;
+  after_all = λ k d lt e. let a = h.above k d lt in absurd (omega arith);
+  after_least = λ start a. omega arith;
   free =
       λ column a. record { free = λ k d lt above reach. (h.more column a).all k d lt reach };
   taken = λ column a. h.fewer column
@@ -107,24 +105,24 @@ row_first cells row covers placed h = record {
   more = λ column a b. h.more column a;
 }
 
-pub place_within : (covers : List Cover) (behind span start limit : ℕ) → EndBefore covers limit →
-    IsFirstFree covers behind span start → start ≤ max behind limit
-place_within covers behind span start limit small h =
-    h.first (max behind limit) (omega arith)
+pub place_within : (covers : List Cover) (trailing span start limit : ℕ) → EndBefore covers limit →
+    IsFirstFree covers trailing span start → start ≤ max trailing limit
+place_within covers trailing span start limit small h =
+    h.first (max trailing limit) (omega arith)
     (record { clear = λ k d lt column from to left right. let s = small.within k d lt in absurd (omega arith) })
 
 -- the first free columns among the covers are the place that is meant
 pub is_place : (cells : List Cell) (row : ℕ) (covers own : List Cover) (placed : List PlacedCell)
-    (passed behind : ℕ) (cell : Cell) (left : ℕ) → AreOrdered covers →
-    IsInRow cells row covers own placed passed behind → cell.row ≡ row →
-    IsFirstFree covers behind cell.colspan left → IsPlace placed cell left
-is_place cells row covers own placed passed behind cell left whole h same first = record {
+    (passed trailing : ℕ) (cell : Cell) (left : ℕ) → AreOrdered covers →
+    IsInRow cells row covers own placed passed trailing → cell.row ≡ row →
+    IsFirstFree covers trailing cell.colspan left → IsPlace placed cell left
+is_place cells row covers own placed passed trailing cell left whole h same first = record {
   fits = record {
-    behind = λ k d lt e. let a = h.behind_all k d lt (e ∙ same) in let b = first.after in omega arith;
+    trailing = λ k d lt e. let a = h.after_all k d lt (e ∙ same) in let b = first.after in omega arith;
     free = λ column from to. subst (λ (n : ℕ). IsFree placed n column) (sym same)
         (h.free column (record { misses = λ k d lt. first.clear.clear k d lt column from to }));
   };
-  first = λ earlier fits. first.first earlier (h.behind_least earlier (λ k d lt e. fits.behind k d lt (e ∙ sym same)))
+  first = λ earlier fits. first.first earlier (h.after_least earlier (λ k d lt e. fits.trailing k d lt (e ∙ sym same)))
       (record {
         clear =
             λ k d lt column from to.
@@ -150,14 +148,14 @@ covered own bound next h ends some = record {
 }
 
 pub row_more : (cells : List Cell) (row : ℕ) (covers own : List Cover) (placed : List PlacedCell)
-    (passed behind next : ℕ) (cell : Cell) (left : ℕ) → AreOrdered covers →
-    IsInRow cells row covers own placed passed behind → length placed < length cells →
+    (passed trailing next : ℕ) (cell : Cell) (left : ℕ) → AreOrdered covers →
+    IsInRow cells row covers own placed passed trailing → length placed < length cells →
     cell ≡ get_or cells (length placed) no_place → cell.row ≡ row → 0 < cell.colspan → cell.colspan < 2 ^ 64 →
     0 < cell.rowspan →
-    IsFirstFree covers behind cell.colspan left → ArePassed covers next left →
+    IsFirstFree covers trailing cell.colspan left → ArePassed covers next left →
     IsInRow cells row covers (own ++ cover_of (placed_here cell left) ∷ [])
     (placed ++ placed_here cell left ∷ []) next (left + cell.colspan)
-row_more cells row covers own placed passed behind next cell left whole h lt at same some small tall first
+row_more cells row covers own placed passed trailing next cell left whole h lt at same some small tall first
     is_passed = record {
       within = let n = len in omega arith;
       so_far = subst (λ (xs : List Cell). ArePlaced xs (placed ++ placed_here cell left ∷ []))
@@ -165,16 +163,16 @@ row_more cells row covers own placed passed behind next cell left whole h lt at 
           ∙ sym (take_more cells (length placed) no_place lt)
           ∙ ap (λ (n : ℕ). take n cells) (sym len))
           (placed_more (take (length placed) cells) placed cell left h.so_far
-          (is_place cells row covers own placed passed behind cell left whole h same first));
+          (is_place cells row covers own placed passed trailing cell left whole h same first));
       upper = All-push (λ p. p.cell.row ≤ row) placed (placed_here cell left) h.upper (omega arith);
       bounded = All-push (λ p. right_of p ≤ farthest (length (placed ++ placed_here cell left ∷ []))) placed
           (placed_here cell left)
           (λ k d k_lt. let a = h.bounded k d k_lt in let n = len in omega arith)
-          (let n = len in let w = place_within covers behind cell.colspan left (farthest (length placed)) h.covers_end
+          (let n = len in let w = place_within covers trailing cell.colspan left (farthest (length placed)) h.covers_end
           first in let b = h.near in omega arith);
-      behind_all = All-push (λ p. p.cell.row ≡ row → right_of p ≤ left + cell.colspan) placed (placed_here cell left)
-          (λ k d k_lt e. let a = h.behind_all k d k_lt e in let b = first.after in omega arith) (λ _. omega arith);
-      behind_least =
+      after_all = All-push (λ p. p.cell.row ≡ row → right_of p ≤ left + cell.colspan) placed (placed_here cell left)
+          (λ k d k_lt e. let a = h.after_all k d k_lt e in let b = first.after in omega arith) (λ _. omega arith);
+      after_least =
           λ start a. (all_pushed (λ p. p.cell.row ≡ row → right_of p ≤ start) placed (placed_here cell left) a).1
           same;
       free =
@@ -199,10 +197,10 @@ row_more cells row covers own placed passed behind next cell left whole h lt at 
       covers_end = end_weaker covers (farthest (length placed))
           (farthest (length (placed ++ placed_here cell left ∷ [])))
           (let n = len in omega arith) h.covers_end;
-      near = let n = len in let w = place_within covers behind cell.colspan left (farthest (length placed)) h.covers_end
+      near = let n = len in let w = place_within covers trailing cell.colspan left (farthest (length placed)) h.covers_end
           first in let b = h.near in omega arith;
-      ordered = covered own behind (cover_of (placed_here cell left)) h.ordered
-          (end_weaker own behind left first.after h.ends) (omega arith);
+      ordered = covered own trailing (cover_of (placed_here cell left)) h.ordered
+          (end_weaker own trailing left first.after h.ends) (omega arith);
       ends =
           record {
             within = All-push (λ c. c.right ≤ left + cell.colspan) own (cover_of (placed_here cell left))
@@ -240,10 +238,10 @@ row_more cells row covers own placed passed behind next cell left whole h lt at 
     len = length-append placed (placed_here cell left ∷ [])
 
 pub left_fits : (cells : List Cell) (row : ℕ) (covers own : List Cover) (placed : List PlacedCell)
-    (passed behind span left : ℕ) → IsInRow cells row covers own placed passed behind →
-    span < 2 ^ 64 → length placed < 2 ^ 64 - 1 → IsFirstFree covers behind span left → left + span < 2 ^ 128
-left_fits cells row covers own placed passed behind span left h span_fits few first =
-    let w = place_within covers behind span left (farthest (length placed)) h.covers_end first in let b = h.near in
+    (passed trailing span left : ℕ) → IsInRow cells row covers own placed passed trailing →
+    span < 2 ^ 64 → length placed < 2 ^ 64 - 1 → IsFirstFree covers trailing span left → left + span < 2 ^ 128
+left_fits cells row covers own placed passed trailing span left h span_fits few first =
+    let w = place_within covers trailing span left (farthest (length placed)) h.covers_end first in let b = h.near in
     omega arith
 
 pub fresh_more : (old placed : List PlacedCell) (row : ℕ) (cell : Cell) (left : ℕ) → cell.row ≡ row →
@@ -263,12 +261,12 @@ pub stays_more : (old placed : List PlacedCell) (x : PlacedCell) → length old 
 stays_more old placed x le stays = take-append-le (length old) placed (x ∷ []) le ∙ stays
 
 pub row_end : (cells : List Cell) (row : ℕ) (covers own : List Cover) (old placed : List PlacedCell)
-    (passed behind : ℕ) → length old ≤ length placed → take (length old) placed ≡ old →
+    (passed trailing : ℕ) → length old ≤ length placed → take (length old) placed ≡ old →
     ((k : ℕ) (d : PlacedCell) → length old ≤ k → k < length placed → (get_or placed k d).cell.row ≡ row) →
-    IsInRow cells row covers own placed passed behind →
+    IsInRow cells row covers own placed passed trailing →
     ((d : Cell) → length placed < length cells → (get_or cells (length placed) d).row ≡ row → ⊥) →
-    IsBehindRow cells row covers own old placed
-row_end cells row covers own old placed passed behind le stays fresh h over = record {
+    IsAfterRow cells row covers own old placed
+row_end cells row covers own old placed passed trailing le stays fresh h over = record {
   within = h.within;
   so_far = h.so_far;
   upper = h.upper;
@@ -280,7 +278,7 @@ row_end cells row covers own old placed passed behind le stays fresh h over = re
   free = h.free;
   taken = h.taken;
   ordered = h.ordered;
-  ends = end_weaker own behind (farthest (length placed)) h.near h.ends;
+  ends = end_weaker own trailing (farthest (length placed)) h.near h.ends;
   apart = h.apart;
   fewer = h.fewer;
   more = h.more;

@@ -1,7 +1,6 @@
 -- From one row to the next.
-use Rattle.std.proofs.Common.{◌≡◌, ℕ, ◌+◌, ◌^◌, ◌<◌, ◌≤◌, Bool, true, false, nat_lt, nat_le, List, []}
-use Rattle.std.proofs.Common.{length, get_or, take, take_all, subst, sym, refl, ap, ◌∙◌, arith, All}
-use Rattle.std.proofs.Common.{Contains}
+use Rattle.std.proofs.Common.{◌≡◌, ◌+◌, ◌^◌, ◌<◌, ◌≤◌, [], ◌∙◌, All, Bool, Contains, List, ap, arith, false, get_or}
+use Rattle.std.proofs.Common.{length, nat_le, nat_lt, refl, subst, sym, take, take_all, true, ℕ}
 use Rattle.std.proofs.lemmas.Bool.Decides.{nat_tests}
 use Rattle.std.proofs.lemmas.List.{get_or-take, get_or_default}
 use Rattle.std.proofs.lemmas.List.Elements.{All-contains, All-take}
@@ -13,8 +12,8 @@ use Rattle.table_grid.specs.declared.covers.Cover.{Cover}
 use Rattle.table_grid.specs.declared.ends.RowEnd.{RowEnd}
 use Rattle.table_grid.specs.Places.{right_of, bottom_of, ArePlaced}
 use Rattle.table_grid.specs.PlaceLaws.{placed_at}
-use Rattle.table_grid.specs.Covers.{AreOrdered, EndBefore, Misses, MissesOne, AllMiss, AreMerged, IsBetweenRows}
-use Rattle.table_grid.specs.Covers.{IsBehindRow, cover_of, farthest}
+use Rattle.table_grid.specs.Covers.{AllMiss, AreMerged, AreOrdered, EndBefore, IsAfterRow, IsBetweenRows, Misses}
+use Rattle.table_grid.specs.Covers.{MissesOne, cover_of, farthest}
 use Rattle.table_grid.specs.Ends.{end_of, end_at, AreEnds, AreAbove, HasEnded, AreEnded, MissFrom, IsUpTo}
 use Rattle.table_grid.specs.Without.{IsWithout}
 use Rattle.table_grid.proofs.ApartLemmas.{standing_apart}
@@ -250,13 +249,13 @@ module _ (cells : List Cell) (ends : List RowEnd) (over at row : ℕ) (covers ow
       }
 
 -- after it
-pub behind_up_to : (cells : List Cell) (ends : List RowEnd) (over row : ℕ) (covers own : List Cover)
+pub after_up_to : (cells : List Cell) (ends : List RowEnd) (over row : ℕ) (covers own : List Cover)
     (old placed : List PlacedCell) →
     IsNonDecreasingBy (λ c. c.row) cells →
     row ≡ (get_or cells (length old) no_place).row → length old < length cells → AreAbove ends over row →
     AreOrdered covers → EndBefore covers (farthest (length old)) →
-    IsBehindRow cells row covers own old placed → IsUpTo cells ends over covers own placed
-behind_up_to cells ends over row covers own old placed in_order at lt above whole ends_before h = record {
+    IsAfterRow cells row covers own old placed → IsUpTo cells ends over covers own placed
+after_up_to cells ends over row covers own old placed in_order at lt above whole ends_before h = record {
   from = row + 1;
   within = h.within;
   so_far = h.so_far;

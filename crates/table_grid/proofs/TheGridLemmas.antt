@@ -1,6 +1,5 @@
 -- The grid that a function gives is the one that the relation says.
-use Rattle.std.proofs.Common.{◌≡◌, ℕ, ◌+◌, ◌≤◌, ◌==◌, true, List, get_or, map, refl, sym, subst, ◌∙◌, arith}
-use Rattle.std.proofs.Common.{All}
+use Rattle.std.proofs.Common.{◌≡◌, ◌+◌, ◌≤◌, ◌==◌, ◌∙◌, All, List, arith, get_or, map, refl, subst, sym, true, ℕ}
 use Rattle.std.specs.List.{filter, range_with_len, Any}
 use Rattle.std.specs.List.Sorted.{IsNonDecreasingBy, IsStrictlyIncreasing}
 use Rattle.std.proofs.lemmas.Bool.Decides.{nat_tests}

@@ -9,15 +9,15 @@ abbrev pub none : Cover
 none = record { left = 0; right = 0 }
 
 -- what the walk keeps: no place before start is free, and the covers before `at` end at start or before
-pub record IsReached (covers : List Cover) (behind span at start : ℕ) : Type 0 where
-  pub after : behind ≤ start
+pub record IsReached (covers : List Cover) (trailing span at start : ℕ) : Type 0 where
+  pub after : trailing ≤ start
   pub small : start + span < 2 ^ 128
   pub passed : ArePassed covers at start
-  pub first : (earlier : ℕ) → behind ≤ earlier → IsClear covers earlier span → start ≤ earlier
+  pub first : (earlier : ℕ) → trailing ≤ earlier → IsClear covers earlier span → start ≤ earlier
 
-pub reached_first : (covers : List Cover) (behind span at : ℕ) → ArePassed covers at behind → behind + span < 2 ^ 128 →
-    IsReached covers behind span at behind
-reached_first covers behind span at passed small =
+pub reached_first : (covers : List Cover) (trailing span at : ℕ) → ArePassed covers at trailing → trailing + span < 2 ^ 128 →
+    IsReached covers trailing span at trailing
+reached_first covers trailing span at passed small =
     record { after = omega arith; small = small; passed = passed; first = λ earlier le _. le }
 
 -- a cover that stands in the way of each start up to its right edge
@@ -29,11 +29,11 @@ in_the_way covers span start k earlier ordered some lt left le free =
     let clear = free.clear k none lt (max earlier (cover_at covers k).left) in
     grind arith
 
-pub reached_more : (covers : List Cover) (behind span at start : ℕ) → AreOrdered covers → 0 < span →
-    IsReached covers behind span at start → at < length covers →
+pub reached_more : (covers : List Cover) (trailing span at start : ℕ) → AreOrdered covers → 0 < span →
+    IsReached covers trailing span at start → at < length covers →
     (cover_at covers at).left < start + span → (cover_at covers at).right + span < 2 ^ 128 →
-    IsReached covers behind span (at + 1) (max start (cover_at covers at).right)
-reached_more covers behind span at start ordered some h lt left small = record {
+    IsReached covers trailing span (at + 1) (max start (cover_at covers at).right)
+reached_more covers trailing span at start ordered some h lt left small = record {
   after = omega arith;
   small = omega arith;
   passed =
@@ -54,10 +54,10 @@ in_no_way covers span at start k column ordered passed end lt from to left right
     let held : at < length covers → (cover_at covers at).left < (cover_at covers at).right = ordered.held at none in
     grind (arith, passed.passed k, ordered.rising at k, held)
 
-pub reached_end : (covers : List Cover) (behind span at start : ℕ) → AreOrdered covers →
-    IsReached covers behind span at start →
-    (at < length covers → start + span ≤ (cover_at covers at).left) → IsFirstFree covers behind span start
-reached_end covers behind span at start ordered h end = record {
+pub reached_end : (covers : List Cover) (trailing span at start : ℕ) → AreOrdered covers →
+    IsReached covers trailing span at start →
+    (at < length covers → start + span ≤ (cover_at covers at).left) → IsFirstFree covers trailing span start
+reached_end covers trailing span at start ordered h end = record {
   after = h.after;
   clear = record {
     clear = All-from_get_or (λ c. (column : ℕ) → start ≤ column → column < start + span → c.left ≤ column →

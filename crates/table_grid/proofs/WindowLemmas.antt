@@ -1,7 +1,6 @@
 -- Windows made smaller, and cells put into them.
-use Rattle.std.proofs.Common.{◌≡◌, ℕ, ◌+◌, ◌-◌, ◌*◌, ◌<◌, ◌≤◌, max, Bool, true, false, cond}
-use Rattle.std.proofs.Common.{List, [], ◌∷◌, length, get_or, take_all, map, filter}
-use Rattle.std.proofs.Common.{subst, refl, arith, All}
+use Rattle.std.proofs.Common.{◌≡◌, ◌+◌, ◌-◌, ◌*◌, ◌<◌, ◌≤◌, [], ◌∷◌, All, Bool, List, arith, cond, false, filter}
+use Rattle.std.proofs.Common.{get_or, length, map, max, refl, subst, take_all, true, ℕ}
 use Rattle.std.proofs.lemmas.Bool.Decides.{nat_tests}
 use Rattle.std.proofs.lemmas.List.FromFn.{fill_by_all}
 use Rattle.std.proofs.lemmas.List.Elements.{All-more, All-head, All-tail, All-cons}

@@ -1,6 +1,6 @@
 -- Covers without the columns of others.
-use Rattle.std.proofs.Common.{◌≡◌, ℕ, ◌+◌, ◌<◌, ◌≤◌, max, Bool, true, false, nat_lt, List, []}
-use Rattle.std.proofs.Common.{length, get_or, take, take_all, subst, sym, refl, ap, ◌∙◌, length-take, arith, All}
+use Rattle.std.proofs.Common.{◌≡◌, ◌+◌, ◌<◌, ◌≤◌, [], ◌∙◌, All, Bool, List, ap, arith, false, get_or, length}
+use Rattle.std.proofs.Common.{length-take, max, nat_lt, refl, subst, sym, take, take_all, true, ℕ}
 use Rattle.std.proofs.lemmas.Bool.Decides.{nat_tests}
 use Rattle.std.proofs.lemmas.List.{get_or-take, get_or_default}
 use Rattle.std.specs.List.Sorted.{IsNonDecreasingBy}
@@ -11,12 +11,12 @@ use Rattle.table_grid.proofs.WalkLemmas.{none}
 use Rattle.table_grid.proofs.MergeLemmas.{misses_more, misses_less, end_weaker}
 
 -- the same within the next cover, up to `left`
-pub record IsCutting (covers ended : List Cover) (i at behind next left : ℕ) (old kept : List Cover) : Type 0 where
+pub record IsCutting (covers ended : List Cover) (i at trailing next left : ℕ) (old kept : List Cover) : Type 0 where
   pub within : next ≤ length ended
   pub farther : at ≤ next
   pub whole : AreOrdered kept
   pub from : (cover_at covers i).left ≤ left
-  pub behind_left : behind ≤ left
+  pub after_left : trailing ≤ left
   pub ends_left : EndBefore kept left
   pub ends_right : EndBefore kept (cover_at covers i).right
   pub passed : (k : ℕ) → k < next → (cover_at ended k).right ≤ left
@@ -43,9 +43,9 @@ kept_first covers ended = record {
   more = λ column a b. no_covers column;
 }
 
-module _ (covers ended : List Cover) (i at behind : ℕ) (old : List Cover) (ordered : AreOrdered covers)
+module _ (covers ended : List Cover) (i at trailing : ℕ) (old : List Cover) (ordered : AreOrdered covers)
     (lt : i < length covers)
-    (h : IsKept covers ended i at behind old) where
+    (h : IsKept covers ended i at trailing old) where
   before : (j : ℕ) → j < i → (cover_at covers j).right ≤ (cover_at covers i).left
   before j j_lt = ordered.rising j i j_lt lt
 
@@ -57,14 +57,14 @@ module _ (covers ended : List Cover) (i at behind : ℕ) (old : List Cover) (ord
         (before k (omega arith));
   })
 
-  pub cutting_first : IsCutting covers ended i at behind at (max behind (cover_at covers i).left) old old
+  pub cutting_first : IsCutting covers ended i at trailing at (max trailing (cover_at covers i).left) old old
   cutting_first = let some = ordered.held i none lt in record {
     within = h.within;
     farther = omega arith;
     whole = h.whole;
     from = omega arith;
-    behind_left = omega arith;
-    ends_left = end_weaker old (cover_at covers i).left (max behind (cover_at covers i).left) (omega arith) old_ends;
+    after_left = omega arith;
+    ends_left = end_weaker old (cover_at covers i).left (max trailing (cover_at covers i).left) (omega arith) old_ends;
     ends_right = end_weaker old (cover_at covers i).left (cover_at covers i).right (omega arith) old_ends;
     passed = λ k k_lt. let p = h.passed k k_lt in omega arith;
     reached = λ column from to. h.reached column (λ j j_lt. let b = before j j_lt in omega arith) (omega arith);
@@ -76,16 +76,16 @@ module _ (covers ended : List Cover) (i at behind : ℕ) (old : List Cover) (ord
 
   pub cutting_more : (next left : ℕ) (kept newer : List Cover) → IsNonDecreasingBy (λ c. c.left) ended →
       All (λ c. c.left < c.right) ended →
-      IsCutting covers ended i at behind next left old kept → next < length ended →
+      IsCutting covers ended i at trailing next left old kept → next < length ended →
       (cover_at ended next).left < (cover_at covers i).right →
       IsPartPut left (cover_at ended next).left kept newer →
-      IsCutting covers ended i at behind (next + 1) (max left (cover_at ended next).right) old newer
+      IsCutting covers ended i at trailing (next + 1) (max left (cover_at ended next).right) old newer
   cutting_more next left kept newer rising some g next_lt begins p = record {
     within = omega arith;
     farther = let f = g.farther in omega arith;
     whole = p.whole;
     from = let f = g.from in omega arith;
-    behind_left = let f = g.behind_left in omega arith;
+    after_left = let f = g.after_left in omega arith;
     ends_left = p.ends (max left (cover_at ended next).right)
         (end_weaker kept left (max left (cover_at ended next).right) (omega arith) g.ends_left)
         (let s = held in omega arith);
@@ -142,7 +142,7 @@ module _ (covers ended : List Cover) (i at behind : ℕ) (old : List Cover) (ord
               omega arith
 
   pub cutting_end : (next left : ℕ) (kept newer : List Cover) → IsNonDecreasingBy (λ c. c.left) ended →
-      IsCutting covers ended i at behind next left old kept →
+      IsCutting covers ended i at trailing next left old kept →
       (next < length ended → (cover_at covers i).right ≤ (cover_at ended next).left) →
       IsPartPut left (cover_at covers i).right kept newer → IsKept covers ended (i + 1) next left newer
   cutting_end next left kept newer rising g over p = record {
@@ -197,9 +197,9 @@ module _ (covers ended : List Cover) (i at behind : ℕ) (old : List Cover) (ord
               get_or_default ended k d none k_lt in
               let r : (get_or ended k d).left ≡ (cover_at ended k).left = ap (λ (c : Cover). c.left) same in omega arith
 
-pub kept_end : (covers ended : List Cover) (i at behind : ℕ) (kept : List Cover) → length covers ≤ i →
-    IsKept covers ended i at behind kept → IsWithout covers ended kept
-kept_end covers ended i at behind kept all h = record {
+pub kept_end : (covers ended : List Cover) (i at trailing : ℕ) (kept : List Cover) → length covers ≤ i →
+    IsKept covers ended i at trailing kept → IsWithout covers ended kept
+kept_end covers ended i at trailing kept all h = record {
   whole = h.whole;
   fewer = λ column a. h.fewer column (subst (λ (xs : List Cover). Misses xs column) (sym (take_all i covers all)) a);
   apart = h.apart;

@@ -1,6 +1,5 @@
 -- What the cells of a table ask of each column.
-use Rattle.std.specs.Prelude.{ℕ, ◌<◌, ◌≤◌, max, Bool, ◌&&◌, nat_le, nat_lt, List, [], ◌∷◌}
-use Rattle.std.specs.Prelude.{map, filter, All}
+use Rattle.std.specs.Prelude.{◌<◌, ◌≤◌, ◌&&◌, [], ◌∷◌, All, Bool, List, filter, map, max, nat_le, nat_lt, ℕ}
 use Rattle.std.specs.List.{range_with_len}
 use Rattle.table_grid.specs.declared.part.Part.{Part}
 

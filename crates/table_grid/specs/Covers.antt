@@ -18,20 +18,20 @@ pub record EndBefore (covers : List Cover) (column : ℕ) : Type 0 where
   pub within : All (λ c. c.right ≤ column) covers
 
 -- the first covers that a cell from here on no longer meets
-pub record ArePassed (covers : List Cover) (at behind : ℕ) : Type 0 where
+pub record ArePassed (covers : List Cover) (at trailing : ℕ) : Type 0 where
   pub within : at ≤ length covers
-  pub passed : (k : ℕ) → k < at → (cover_at covers k).right ≤ behind
+  pub passed : (k : ℕ) → k < at → (cover_at covers k).right ≤ trailing
 
 -- no cover stands in the columns from start on
 pub record IsClear (covers : List Cover) (start span : ℕ) : Type 0 where
   pub clear : All (λ c. (column : ℕ) → start ≤ column → column < start + span → c.left ≤ column → column < c.right → ⊥)
       covers
 
--- the first such columns, from `behind` on
-pub record IsFirstFree (covers : List Cover) (behind span start : ℕ) : Type 0 where
-  pub after : behind ≤ start
+-- the first such columns, from `trailing` on
+pub record IsFirstFree (covers : List Cover) (trailing span start : ℕ) : Type 0 where
+  pub after : trailing ≤ start
   pub clear : IsClear covers start span
-  pub first : (earlier : ℕ) → behind ≤ earlier → IsClear covers earlier span → start ≤ earlier
+  pub first : (earlier : ℕ) → trailing ≤ earlier → IsClear covers earlier span → start ≤ earlier
 
 abbrev pub MissesOne : Cover → ℕ → Type 0
 MissesOne c column = c.left ≤ column → column < c.right → ⊥
@@ -49,7 +49,7 @@ pub record IsMergedTo (covers : List Cover) (at limit : ℕ) (merged : List Cove
   pub within : at ≤ length covers
   pub whole : AreOrdered merged
   pub ends : EndBefore merged limit
-  pub behind : at < length covers → EndBefore merged (cover_at covers at).left
+  pub trailing : at < length covers → EndBefore merged (cover_at covers at).left
 
 -- those from `at` to `n` were put after the old ones
 pub record ArePushed (covers : List Cover) (at n limit : ℕ) (old new : List Cover) : Type 0 where
@@ -95,7 +95,7 @@ pub record IsBetweenRows (cells : List Cell) (row : ℕ) (covers : List Cover) (
   pub more : (column : ℕ) → Misses covers column → AllMiss placed row column
 
 -- the row is placed too, and `own` is what its cells cover
-pub record IsBehindRow (cells : List Cell) (row : ℕ) (covers own : List Cover)
+pub record IsAfterRow (cells : List Cell) (row : ℕ) (covers own : List Cover)
     (old placed : List PlacedCell) : Type 0 where
   pub within : length placed ≤ length cells
   pub so_far : ArePlaced (take (length placed) cells) placed

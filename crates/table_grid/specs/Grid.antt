@@ -1,7 +1,7 @@
 -- The grid of a table: columns between the edges of its cells, what each asks for, and what is left without those of
 -- size 0.
-use Rattle.std.specs.Prelude.{◌≡◌, ℕ, ◌+◌, ◌-◌, ◌/◌, Bool, ◌&&◌, nat_le, nat_lt, List, ◌++◌}
-use Rattle.std.specs.Prelude.{length, take, map, filter, count_by, Contains, eqb}
+use Rattle.std.specs.Prelude.{◌≡◌, ◌+◌, ◌-◌, ◌/◌, ◌&&◌, ◌++◌, Bool, Contains, List, count_by, eqb, filter, length, map}
+use Rattle.std.specs.Prelude.{nat_le, nat_lt, take, ℕ}
 use Rattle.std.specs.List.{range_with_len, dedup}
 use Rattle.std.specs.List.Sorted.{IsStrictlyIncreasing}
 use Rattle.table_grid.specs.declared.cell.Cell.{Cell}

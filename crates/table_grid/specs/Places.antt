@@ -23,7 +23,7 @@ pub record IsFree (before : List PlacedCell) (row column : ℕ) : Type 0 where
 
 -- a cell may begin here: after the cells before it in its row, its whole column span free of row spans from above
 pub record Fits (before : List PlacedCell) (cell : Cell) (start : ℕ) : Type 0 where
-  pub behind : All (λ p. p.cell.row ≡ cell.row → right_of p ≤ start) before
+  pub trailing : All (λ p. p.cell.row ≡ cell.row → right_of p ≤ start) before
   pub free : (column : ℕ) → start ≤ column → column < start + cell.colspan → IsFree before cell.row column
 
 -- a cell begins at the first column where it may

@@ -1,6 +1,6 @@
 -- The places of cells and the gaps of rows, as functions: a law says that they are those of the relations.
-use Rattle.std.specs.Prelude.{ℕ, zero, suc, ◌+◌, ◌==◌, Bool, true, ◌&&◌, not, nat_le, nat_lt, if◌then◌else◌, List}
-use Rattle.std.specs.Prelude.{[], ◌∷◌, ◌++◌, map, max, min, filter, flat_map, eqb}
+use Rattle.std.specs.Prelude.{◌+◌, ◌==◌, ◌&&◌, if◌then◌else◌, [], ◌∷◌, ◌++◌, Bool, List, eqb, filter, flat_map, map}
+use Rattle.std.specs.Prelude.{max, min, nat_le, nat_lt, not, suc, true, zero, ℕ}
 use Rattle.std.specs.List.{list_all, list_any, range_with_len, position_or_len, dedup}
 use Rattle.table_grid.specs.declared.cell.Cell.{Cell}
 use Rattle.table_grid.specs.declared.cell.PlacedCell.{PlacedCell}
@@ -33,13 +33,13 @@ place_of before cell = position_or_len (may_begin before cell) (range_with_len 0
 abbrev pub placed_cell : List PlacedCell → Cell → PlacedCell
 placed_cell before cell = record { cell = cell; left = place_of before cell }
 
-abbrev pub placed_behind : List PlacedCell → List Cell → List PlacedCell
-placed_behind before [] = before
-placed_behind before (cell ∷ cells) = placed_behind (before ++ placed_cell before cell ∷ []) cells
+abbrev pub placed_after : List PlacedCell → List Cell → List PlacedCell
+placed_after before [] = before
+placed_after before (cell ∷ cells) = placed_after (before ++ placed_cell before cell ∷ []) cells
 
 -- the cells of a table, row by row, each in its place
 unfoldable pub places_of : List Cell → List PlacedCell
-places_of cells = placed_behind [] cells
+places_of cells = placed_after [] cells
 
 -- ---- gaps
 

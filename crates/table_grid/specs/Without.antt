@@ -19,13 +19,13 @@ pub record IsPartPut (left right : ℕ) (old new : List Cover) : Type 0 where
   pub ends : (bound : ℕ) → EndBefore old bound → right ≤ bound → EndBefore new bound
 
 -- what is kept of the covers up to `i`, where those of the others that begin before them are passed, up to `at`
-pub record IsKept (covers ended : List Cover) (i at behind : ℕ) (kept : List Cover) : Type 0 where
+pub record IsKept (covers ended : List Cover) (i at trailing : ℕ) (kept : List Cover) : Type 0 where
   pub within : at ≤ length ended
   pub whole : AreOrdered kept
   pub ends : (bound : ℕ) → EndBefore (take i covers) bound → EndBefore kept bound
-  pub passed : (k : ℕ) → k < at → (cover_at ended k).right ≤ behind
+  pub passed : (k : ℕ) → k < at → (cover_at ended k).right ≤ trailing
   pub coming : (j k : ℕ) → j < i → at ≤ k → k < length ended → (cover_at covers j).right ≤ (cover_at ended k).left
-  pub reached : (column : ℕ) → ((j : ℕ) → j < i → (cover_at covers j).right ≤ column) → column < behind →
+  pub reached : (column : ℕ) → ((j : ℕ) → j < i → (cover_at covers j).right ≤ column) → column < trailing →
       Misses ended column → ⊥
   pub fewer : (column : ℕ) → Misses (take i covers) column → Misses kept column
   pub apart : (column : ℕ) → (Misses ended column → ⊥) → Misses kept column

@@ -1,7 +1,7 @@
 //! Covers: columns that cells take in a row.
 ghost use Rattle.std.specs.Prelude.{ℕ, ◌-◌, ◌^◌, ◌<◌, ◌≤◌, All, IfOk, length};
-ghost use Rattle.table_grid.specs.Covers.{AreApart, AreMerged, AreOrdered, ArePushed, EndBefore};
-ghost use Rattle.table_grid.specs.Covers.{IsMergedTo, Misses, MissesOne, cover_at};
+ghost use Rattle.table_grid.specs.Covers.{AreApart, AreMerged, AreOrdered, ArePushed, EndBefore, IsMergedTo, Misses};
+ghost use Rattle.table_grid.specs.Covers.{MissesOne, cover_at};
 
 use std::alloc::AllocError;
 
@@ -15,10 +15,10 @@ pub(crate) struct Cover {
 /// Puts a cover after the others, joined to the last one where it begins where that one ends.
 pub(crate) fn push_cover(covers: &mut Vec<Cover>, next: Cover) -> Result<(), AllocError>
     requires ordered { AreOrdered covers.old.items }
-    requires behind { EndBefore covers.old.items next.left }
+    requires trailing { EndBefore covers.old.items next.left }
     requires some { next.left < next.right }
     ensures ordered { IfOk result (λ _. AreOrdered covers.new.items) }
-    ensures behind { IfOk result (λ _. EndBefore covers.new.items next.right) }
+    ensures trailing { IfOk result (λ _. EndBefore covers.new.items next.right) }
     ensures fewer { IfOk result (λ _. (column : ℕ) → Misses covers.old.items column → MissesOne next column
         → Misses covers.new.items column) }
     ensures more { IfOk result (λ _. (column : ℕ) → Misses covers.new.items column

@@ -4,8 +4,8 @@ ghost use Rattle.std.specs.List.Sorted.{IsStrictlyIncreasing};
 ghost use Rattle.table_grid.specs.Places.{right_of};
 ghost use Rattle.table_grid.specs.Grid.{AreEdges, rank, span_in};
 
-use std::alloc::{AllocError, Global};
 use crate::cell::{Cell, PlacedCell};
+use std::alloc::{AllocError, Global};
 
 /// A cell by the columns that it takes: those from `first` to before `last`.
 #[derive(Clone, Copy, Debug, PartialEq, Eq)]

@@ -13,7 +13,7 @@ fn beside_a_row_span()
 
 // the same after a column of empty cells: <tr><td><td rowspan=2>a<td>b<tr><td><td>c
 #[tactic(auto, unfolding(crate::specs::Grid::rank, crate::specs::Grid::left_before, crate::specs::Columns::greatest_at, crate::specs::Columns::greatest))]
-fn behind_an_empty_column()
+fn after_an_empty_column()
     ensures columns { columns_kept (empty 0 1 1 0 ∷ letter 0 1 2 1 ∷ letter 0 1 1 2 ∷ empty 1 1 1 0 ∷ letter 1 1 1 2
         ∷ []) (0 ∷ 1 ∷ 2 ∷ 3 ∷ []) ≡ column 1 1 ∷ column 1 1 ∷ [] }
     ensures cells { cells_kept (empty 0 1 1 0 ∷ letter 0 1 2 1 ∷ letter 0 1 1 2 ∷ empty 1 1 1 0 ∷ letter 1 1 1 2 ∷ [])

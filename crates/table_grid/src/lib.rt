@@ -16,7 +16,7 @@
 //! - `place_cells`: of cells that are given row by row, with spans of at least 1: each cell stands at the first
 //!   column where it may begin (`placed`), no right edge passes 128 bits (`small`), and the gaps are all those of
 //!   the rows in which a cell begins, once and in order (`gaps`). The error is allocation failure
-//! - `cells_have_places`, `cells_have_one_place`, `cells_share_no_slot`, `cells_begin_behind_cells`,
+//! - `cells_have_places`, `cells_have_one_place`, `cells_share_no_slot`, `cells_begin_after_cells`,
 //!   `rows_have_no_hole`: laws over definitions: there are places and gaps, those that two functions give
 //!   (`places_of`, `gaps_of`), and they are determined; no slot of the grid is taken twice; a cell begins at the
 //!   first column or after a taken one in its own row, and in each row that it stands in at the first column or
@@ -89,5 +89,8 @@ pub use gaps::Gap;
 pub use grid::{Grid, GridCell, GridGap};
 pub use grid_laws::{cells_have_a_grid, columns_of_a_grid_are_sized, one_grid};
 pub use part::Part;
-pub use place_laws::{ cells_begin_behind_cells, cells_have_one_place, cells_have_places, cells_share_no_slot, rows_have_no_hole, };
+pub use place_laws::{
+    cells_begin_after_cells, cells_have_one_place, cells_have_places, cells_share_no_slot,
+    rows_have_no_hole,
+};
 pub use places::{Places, place_cells};

@@ -26,7 +26,7 @@ pub fn cells_share_no_slot()
 {}
 
 /// A cell begins at the first column, or after one in which a cell stands, in the row in which it begins.
-pub fn cells_begin_behind_cells()
+pub fn cells_begin_after_cells()
     ensures { (cells : List Cell) (placed : List PlacedCell) → All (λ c. 0 < c.colspan) cells
         → All (λ c. 0 < c.rowspan) cells → ArePlaced cells placed → (k column : ℕ) → k < length placed
         → column + 1 ≡ (placed_at placed k).left → IsVacant placed (placed_at placed k).cell.row column → ⊥ }

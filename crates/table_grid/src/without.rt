@@ -10,7 +10,7 @@ use std::alloc::{AllocError, Global};
 // puts the columns from `left` to before `right` after the others, if there is one
 fn push_part(kept: &mut Vec<Cover>, left: u128, right: u128) -> Result<(), AllocError>
     requires ordered { AreOrdered kept.old.items }
-    requires behind { EndBefore kept.old.items left }
+    requires trailing { EndBefore kept.old.items left }
     ensures { IfOk result (λ _. IsPartPut left right kept.old.items kept.new.items) }
 {
     if left < right {
@@ -27,17 +27,17 @@ fn push_without(
     i: usize,
     ended: &[Cover],
     at: usize,
-    behind: u128,
+    trailing: u128,
 ) -> Result<(usize, u128), AllocError>
     requires within { i < length covers.now }
     requires ordered { AreOrdered covers.now }
     requires rising { IsNonDecreasingBy (λ c. c.left) ended.now }
     requires some { All (λ c. c.left < c.right) ended.now }
-    requires kept { IsKept covers.now ended.now i at behind kept.old.items }
+    requires kept { IsKept covers.now ended.now i at trailing kept.old.items }
     ensures { IfOk result (λ r. IsKept covers.now ended.now (i + 1) r.0 r.1 kept.new.items) }
 {
     let right = covers[i].right;
-    let mut left = behind.max(covers[i].left);
+    let mut left = trailing.max(covers[i].left);
     let mut next = at;
     while next < ended.len() && ended[next].left < right {
         push_part(kept, left, ended[next].left)?;
@@ -61,11 +61,11 @@ pub(crate) fn covers_without(
 {
     let mut kept = Vec::new(alloc);
     let mut at: usize = 0;
-    let mut behind: u128 = 0;
+    let mut trailing: u128 = 0;
     for i in 0..covers.len() {
-        let (next, end) = push_without(&mut kept, covers, i, ended, at, behind)?;
+        let (next, end) = push_without(&mut kept, covers, i, ended, at, trailing)?;
         at = next;
-        behind = end;
+        trailing = end;
     }
     Ok(kept)
 }

@@ -1,6 +1,6 @@
 -- A row among places that cells of rows above take: it is whole.
-use Rattle.std.proofs.Common.{◌≡◌, ℕ, ◌<◌, ◌≤◌, ◌⊎◌, inl, inr, Bool, true, false, nat_lt, List, length, ap, subst}
-use Rattle.std.proofs.Common.{sym, refl, ◌∙◌, arith}
+use Rattle.std.proofs.Common.{◌≡◌, ◌<◌, ◌≤◌, ◌⊎◌, ◌∙◌, Bool, List, ap, arith, false, inl, inr, length, nat_lt, refl}
+use Rattle.std.proofs.Common.{subst, sym, true, ℕ}
 use Rattle.std.specs.List.{AllByRecursion}
 use Rattle.std.proofs.lemmas.Bool.Decides.{nat_tests}
 use Rattle.std.proofs.lemmas.List.{get_or_default}
@@ -17,8 +17,8 @@ use Rattle.table_widths.proofs.StandLemmas.{EndsAt, AreInOrder, AreApart}
 use Rattle.table_widths.proofs.WholeLemmas.{BeginsAmong, AreApartInRow, AreParts, row_is_whole}
 use Rattle.table_widths.proofs.ReachLemmas.{reach, reaches, reach_with}
 use Rattle.table_widths.proofs.PageLemmas.{IsPage, IsItem, HasItemTo, cells_apart, gap_apart, item_begins, nobody}
-use Rattle.table_widths.proofs.SlotLemmas.{own_slot, empty_slot, own_slots, empty_slots, own_each, gaps_each, own_has}
-use Rattle.table_widths.proofs.SlotLemmas.{gaps_has, own_in_order, gaps_in_order}
+use Rattle.table_widths.proofs.SlotLemmas.{empty_slot, empty_slots, gaps_each, gaps_has, gaps_in_order, own_each}
+use Rattle.table_widths.proofs.SlotLemmas.{own_has, own_in_order, own_slot, own_slots}
 
 -- the slot is that of a cell of a row above, as far as it is still to be counted
 pub record GoesOn (left : ℕ → ℕ) (shown : List ℕ) (row : ℕ) (p : PlacedCell) (s : Slot) : Type 0 where

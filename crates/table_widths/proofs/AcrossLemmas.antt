@@ -1,6 +1,6 @@
 -- Rows across: what cells of rows above take is carried from row to row.
-use Rattle.std.proofs.Common.{◌≡◌, ℕ, zero, suc, ◌+◌, ◌-◌, ◌<◌, ◌≤◌, ◌⊎◌, inl, inr, Bool, true, false, ◌&&◌, ◌||◌}
-use Rattle.std.proofs.Common.{cond, nat_lt, List, [], ◌∷◌, length, map, ap, subst, refl, ◌∙◌, arith}
+use Rattle.std.proofs.Common.{◌≡◌, ◌+◌, ◌-◌, ◌<◌, ◌≤◌, ◌⊎◌, ◌&&◌, ◌||◌, [], ◌∷◌, ◌∙◌, Bool, List, ap, arith, cond}
+use Rattle.std.proofs.Common.{false, inl, inr, length, map, nat_lt, refl, subst, suc, true, zero, ℕ}
 use Rattle.std.specs.List.{AllByRecursion, list_any, range_with_len}
 use Rattle.std.proofs.lemmas.Bool.Decides.{nat_tests}
 use Rattle.table_grid.specs.declared.cell.PlacedCell.{PlacedCell}
@@ -9,15 +9,15 @@ use Rattle.table_grid.specs.PlaceLaws.{placed_at}
 use Rattle.table_grid.specs.Places.{right_of, bottom_of}
 use Rattle.table_widths.specs.declared.slot.Slot.{Slot}
 use Rattle.table_widths.specs.RowLaws.{IsWhole}
-use Rattle.table_widths.specs.Slots.{merged, is_shown, has_columns, goes_on, covered, covered_behind, across}
-use Rattle.table_widths.proofs.EachLemmas.{Has, IsAt, Pairs, each_weaker, each_kept, has_weaker, has_each, has_kept}
-use Rattle.table_widths.proofs.EachLemmas.{kept_has, pairs_kept, at_has}
+use Rattle.table_widths.specs.Slots.{merged, is_shown, has_columns, goes_on, covered, covered_after, across}
+use Rattle.table_widths.proofs.EachLemmas.{Has, IsAt, Pairs, at_has, each_kept, each_weaker, has_each, has_kept}
+use Rattle.table_widths.proofs.EachLemmas.{has_weaker, kept_has, pairs_kept}
 use Rattle.table_widths.proofs.StandLemmas.{EndsBefore, AreInOrder, merging, merged_has, has_merged}
 use Rattle.table_widths.proofs.WholeLemmas.{each_of_row, has_own, has_above, row_in_order}
 use Rattle.table_widths.proofs.ReachLemmas.{reach, reaches, reach_with, reach_without}
 use Rattle.table_widths.proofs.PageLemmas.{IsPage, nobody}
-use Rattle.table_widths.proofs.SlotLemmas.{begins_in, cell_row, own_slot, empty_slot, own_slots, empty_slots, own_each}
-use Rattle.table_widths.proofs.SlotLemmas.{gaps_each, own_has}
+use Rattle.table_widths.proofs.SlotLemmas.{begins_in, cell_row, empty_slot, empty_slots, gaps_each, own_each, own_has}
+use Rattle.table_widths.proofs.SlotLemmas.{own_slot, own_slots}
 use Rattle.table_widths.proofs.AboveLemmas.{GoesOn, ComesDown, AreAbove, row_apart, whole_here}
 
 any_has : {X : Type 0} (test : X → Bool) (xs : List X) → list_any test xs ≡ true → Has (λ x. test x ≡ true) xs
@@ -51,7 +51,7 @@ pairs_covered : (slots : List Slot) → AreInOrder slots →
 pairs_covered [] h = tt
 pairs_covered (s ∷ slots) h = (order_covered s slots h.0, pairs_covered slots h.1)
 
-covered_in_order : (slots : List Slot) → AreInOrder slots → AreInOrder (covered_behind slots)
+covered_in_order : (slots : List Slot) → AreInOrder slots → AreInOrder (covered_after slots)
 covered_in_order slots h = pairs_kept covered goes_on EndsBefore slots (pairs_covered slots h)
 
 goes_more : (s : Slot) → goes_on s ≡ true → 1 < s.rows
@@ -209,7 +209,7 @@ module _ (placed : List PlacedCell) (between : List Gap) (left : ℕ → ℕ) (s
   -- after a row that is shown its cells are above too
   pub above_goes_on : (row : ℕ) (above : List Slot) → AreAbove placed left shown row above →
       Has (λ r. r ≡ row) shown →
-      AreAbove placed left shown (row + 1) (covered_behind (merged (row_slots row) above))
+      AreAbove placed left shown (row + 1) (covered_after (merged (row_slots row) above))
   above_goes_on row above h here = record {
     order = covered_in_order (merged (row_slots row) above)
         (row_in_order (own_slots placed left shown row) (empty_slots between left row) above
@@ -235,7 +235,7 @@ module _ (placed : List PlacedCell) (between : List Gap) (left : ℕ → ℕ) (s
       all : (k : ℕ) → k < length placed → (placed_at placed k).cell.row < row + 1 →
           left (placed_at placed k).left < left (right_of (placed_at placed k)) →
           0 < reach shown (row + 1) (bottom_of (placed_at placed k)) →
-          Has (GoesOn left shown (row + 1) (placed_at placed k)) (covered_behind (merged (row_slots row) above))
+          Has (GoesOn left shown (row + 1) (placed_at placed k)) (covered_after (merged (row_slots row) above))
       all k lt upper some more = has_kept covered goes_on (GoesOn left shown (row + 1) (placed_at placed k))
           (merged (row_slots row) above) (by (nat_lt (placed_at placed k).cell.row row) refl)
         where
@@ -280,12 +280,12 @@ module _ (placed : List PlacedCell) (between : List Gap) (left : ℕ → ℕ) (s
           AllByRecursion (λ slots. is_shown slots ≡ true → IsWhole total slots)
           (cond b
           (merged (row_slots row) above
-          ∷ across (covered_behind (merged (row_slots row) above)) (map row_slots (range_with_len (row + 1) n)))
+          ∷ across (covered_after (merged (row_slots row) above)) (map row_slots (range_with_len (row + 1) n)))
           (row_slots row ∷ across above (map row_slots (range_with_len (row + 1) n))))
       by true e further =
           let here : Has (λ r. r ≡ row) shown = shown_has row e in (
             λ f. whole_here placed between left shown total page row above h here,
-            further (covered_behind (merged (row_slots row) above)) (above_goes_on row above h here),
+            further (covered_after (merged (row_slots row) above)) (above_goes_on row above h here),
           )
       by false e further = (
         λ f. absurd (false_true (is_shown (row_slots row)) e f),

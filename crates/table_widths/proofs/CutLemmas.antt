@@ -1,8 +1,8 @@
 -- Where the shares fit, and where they don't.
 use Rattle.std.proofs.Common.{◌≡◌, ℕ, ◌+◌, ◌-◌, ◌<◌, ◌≤◌, List, All, map, sum_by, ap, subst, ◌∙◌, arith}
 use Rattle.table_widths.specs.declared.column.ColumnShare.{ColumnShare}
-use Rattle.table_widths.specs.Widths.{slack_of, least_of, share_of, separators, room_of, filled, IsLevel, IsLowered}
-use Rattle.table_widths.specs.Widths.{IsColumnWidths}
+use Rattle.table_widths.specs.Widths.{IsColumnWidths, IsLevel, IsLowered, filled, least_of, room_of, separators}
+use Rattle.table_widths.specs.Widths.{share_of, slack_of}
 use Rattle.table_widths.proofs.LevelLemmas.{least_and_slack}
 
 module _ (cs : List ColumnShare) (width room : ℕ) (within : All (λ c. c.least ≤ c.share) cs)

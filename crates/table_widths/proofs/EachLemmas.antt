@@ -1,6 +1,6 @@
 -- What holds of each element of a list, or of some, by recursion on it; and of the elements that a filter keeps.
-use Rattle.std.proofs.Common.{◌≡◌, ℕ, zero, suc, ◌<◌, ◌⊎◌, inl, inr, Bool, true, false, cond, List, [], ◌∷◌, length}
-use Rattle.std.proofs.Common.{get_or, map, filter, refl, arith}
+use Rattle.std.proofs.Common.{◌≡◌, ◌<◌, ◌⊎◌, [], ◌∷◌, Bool, List, arith, cond, false, filter, get_or, inl, inr, length}
+use Rattle.std.proofs.Common.{map, refl, suc, true, zero, ℕ}
 use Rattle.std.specs.List.{AllByRecursion, AllPairs}
 
 -- some element is so

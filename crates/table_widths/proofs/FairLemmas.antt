@@ -1,13 +1,12 @@
 -- Columns of text that are taken in order: what is left of each column then is known by how many are taken.
-use Rattle.std.proofs.Common.{◌≡◌, ℕ, zero, suc, ◌+◌, ◌-◌, ◌<◌, ◌≤◌, min, Bool, true, false, cond, ◌&&◌, nat_lt, nat_le}
-use Rattle.std.proofs.Common.{List, [], ◌∷◌, length, get_or, take, sum, sum_by, refl, sym, ap, ◌∙◌}
-use Rattle.std.proofs.Common.{arith, All}
+use Rattle.std.proofs.Common.{◌≡◌, ◌+◌, ◌-◌, ◌<◌, ◌≤◌, ◌&&◌, [], ◌∷◌, ◌∙◌, All, Bool, List, ap, arith, cond, false}
+use Rattle.std.proofs.Common.{get_or, length, min, nat_le, nat_lt, refl, suc, sum, sum_by, sym, take, true, zero, ℕ}
 use Rattle.std.proofs.lemmas.Bool.Decides.{nat_tests}
 use Rattle.std.proofs.lemmas.List.{ext_get_or, take-take}
 use Rattle.std.proofs.lemmas.List.Sums.{sum_by-cons}
 use Rattle.table_widths.specs.declared.column.ColumnShare.{ColumnShare}
-use Rattle.table_widths.specs.Widths.{slack_of, wider, equal, column_at, IsLowered, IsColumnWidths}
-use Rattle.table_widths.specs.Widths.{filled, room_of, separators, share_of}
+use Rattle.table_widths.specs.Widths.{IsColumnWidths, IsLowered, column_at, equal, filled, room_of, separators}
+use Rattle.table_widths.specs.Widths.{share_of, slack_of, wider}
 use Rattle.table_widths.specs.OneByOne.{excess_at}
 use Rattle.table_widths.proofs.RankLemmas.{both, equal_take}
 use Rattle.table_widths.proofs.TotalLemmas.{has_part, pos_level, width_is, bounds_law}

@@ -1,11 +1,11 @@
 -- Leasts and shares meet what the widths ask.
-use Rattle.std.proofs.Common.{◌≡◌, ℕ, ◌+◌, ◌-◌, ◌<◌, ◌≤◌, List, [], ◌∷◌, length, get_or}
-use Rattle.std.proofs.Common.{map, sum, sum_by, sym, ◌∙◌, arith}
+use Rattle.std.proofs.Common.{◌≡◌, ◌+◌, ◌-◌, ◌<◌, ◌≤◌, [], ◌∷◌, ◌∙◌, List, arith, get_or, length, map, sum, sum_by, sym}
+use Rattle.std.proofs.Common.{ℕ}
 use Rattle.std.proofs.lemmas.List.{get_or-map, length-map}
 use Rattle.std.proofs.lemmas.List.Sums.{sum_by-cons, get_or-le-sum_by}
 use Rattle.table_grid.specs.declared.columns.Column.{Column}
-use Rattle.table_widths.specs.Shares.{size_of, least_of, share_of, total_of, leasts_of, shares_of, least_width}
-use Rattle.table_widths.specs.Shares.{AreSized}
+use Rattle.table_widths.specs.Shares.{AreSized, least_of, least_width, leasts_of, share_of, shares_of, size_of}
+use Rattle.table_widths.specs.Shares.{total_of}
 
 abbrev pub no_column : Column
 no_column = record { size = 0; least = 0 }

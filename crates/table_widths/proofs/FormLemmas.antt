@@ -1,6 +1,6 @@
 -- The rows of a table, formed one after another.
-use Rattle.std.proofs.Common.{◌≡◌, ℕ, ◌+◌, ◌<◌, ◌≤◌, List, [], ◌∷◌, ◌++◌, Vec, Global, length, get_or, map}
-use Rattle.std.proofs.Common.{refl, ap, sym, subst, ◌∙◌, arith, ◌⊎◌, inl, inr}
+use Rattle.std.proofs.Common.{◌≡◌, ◌+◌, ◌<◌, ◌≤◌, [], ◌∷◌, ◌++◌, ◌∙◌, ◌⊎◌, Global, List, Vec, ap, arith, get_or, inl}
+use Rattle.std.proofs.Common.{inr, length, map, refl, subst, sym, ℕ}
 use Rattle.std.specs.List.{AllPairs, range_with_len, zip}
 use Rattle.std.specs.List.Sorted.{IsNonDecreasingBy}
 use Rattle.std.proofs.lemmas.Bool.{cases_lt}
@@ -10,8 +10,8 @@ use Rattle.table_grid.specs.Gaps.{IsBefore}
 use Rattle.table_grid.specs.Places.{cell_of}
 use Rattle.table_grid.specs.declared.cell.Cell.{Cell}
 use Rattle.table_grid.specs.declared.gaps.Gap.{Gap}
-use Rattle.table_grid.specs.Grid.{IsGrid, all_columns, gap_left, grid_cell, rows_with_cells}
-use Rattle.table_grid.specs.Grid.{span_in, span_left, spans_of}
+use Rattle.table_grid.specs.Grid.{IsGrid, all_columns, gap_left, grid_cell, rows_with_cells, span_in, span_left}
+use Rattle.table_grid.specs.Grid.{spans_of}
 use Rattle.table_grid.specs.TheGrid.{TheGrid}
 use Rattle.table_grid.specs.declared.columns.Column.{Column}
 use Rattle.table_grid.specs.declared.edges.SpannedCell.{SpannedCell}
@@ -39,13 +39,13 @@ formed_first cells placed gaps count = record {
   gaps_left = record { all = λ later le. refl };
 }
 
-pub formed_more : (cells : List Cell) (placed : List GridCell) (gaps : List GridGap) (count cell gap behind after : ℕ)
+pub formed_more : (cells : List Cell) (placed : List GridCell) (gaps : List GridGap) (count cell gap trailing after : ℕ)
     (row : ℕ) (rows : List (Vec Slot Global)) (own empty : List Slot) (slots : Vec Slot Global) →
     length rows < count → length rows + 1 ≡ row → AreFormed cells placed gaps count cell gap rows →
     own ≡ cells_in cells placed row → empty ≡ gaps_in gaps row → slots.items ≡ merged own empty →
-    HasRowsFrom is_cell_of (zip cells placed) (row + 1) behind → HasRowsFrom is_gap_of gaps (row + 1) after →
-    AreFormed cells placed gaps count behind after (rows ++ slots ∷ [])
-formed_more cells placed gaps count cell gap behind after row rows own empty slots lt is h own_is empty_is slots_are
+    HasRowsFrom is_cell_of (zip cells placed) (row + 1) trailing → HasRowsFrom is_gap_of gaps (row + 1) after →
+    AreFormed cells placed gaps count trailing after (rows ++ slots ∷ [])
+formed_more cells placed gaps count cell gap trailing after row rows own empty slots lt is h own_is empty_is slots_are
     cells_left gaps_left =
     let n : length (rows ++ slots ∷ []) ≡ length rows + 1 = length_push rows slots in
     let here : 1 + length rows ≡ row = omega arith in

@@ -1,6 +1,6 @@
 -- The rows of a table across are whole.
-use Rattle.std.proofs.Common.{◌≡◌, ℕ, ◌+◌, ◌<◌, ◌≤◌, ◌⊎◌, List, [], ◌∷◌, length, get_or, take, map, filter}
-use Rattle.std.proofs.Common.{length-take, ap, subst, sym, refl, ◌∙◌, arith, All, true}
+use Rattle.std.proofs.Common.{◌≡◌, ◌+◌, ◌<◌, ◌≤◌, ◌⊎◌, [], ◌∷◌, ◌∙◌, All, List, ap, arith, filter, get_or, length}
+use Rattle.std.proofs.Common.{length-take, map, refl, subst, sym, take, true, ℕ}
 use Rattle.std.specs.List.{AllPairs, range_with_len, zip}
 use Rattle.std.specs.List.Sorted.{IsNonDecreasingBy}
 use Rattle.std.proofs.lemmas.List.{get_or-map, get_or-take, length-map}
@@ -55,7 +55,7 @@ side_by_side : (cells : List Cell) (placed : List PlacedCell) → ArePlaced cell
 side_by_side cells placed h i j d lt j_lt same =
     let before : get_or (take j placed) i d ≡ get_or placed i d = get_or-take j placed i d lt in
     subst (λ (p : PlacedCell). right_of p ≤ (get_or placed j d).left) before
-    ((h.each j d j_lt).fits.behind i d (let n = length-take j placed in omega arith)
+    ((h.each j d j_lt).fits.trailing i d (let n = length-take j placed in omega arith)
     (ap (λ (p : PlacedCell). p.cell.row) before ∙ same))
 
 map_same : {X Y : Type 0} (f g : X → Y) → ((x : X) → f x ≡ g x) → (xs : List X) → map f xs ≡ map g xs

@@ -1,6 +1,6 @@
 -- The columns that are left before an edge of the grid.
-use Rattle.std.proofs.Common.{◌≡◌, ℕ, zero, suc, ◌≤◌, Bool, cond, nat_lt, List, [], ◌∷◌, length, take, filter}
-use Rattle.std.proofs.Common.{count_by, ap, refl, ◌∙◌, arith}
+use Rattle.std.proofs.Common.{◌≡◌, ◌≤◌, [], ◌∷◌, ◌∙◌, Bool, List, ap, arith, cond, count_by, filter, length, nat_lt}
+use Rattle.std.proofs.Common.{refl, suc, take, zero, ℕ}
 use Rattle.std.proofs.lemmas.Bool.Decides.{nat_tests}
 use Rattle.std.proofs.lemmas.List.Sums.{sum_by-cons, length-filter}
 use Rattle.table_grid.specs.declared.columns.Column.{Column}

@@ -1,6 +1,6 @@
 -- What columns take at a level rises with the level, and at the level of the room they take up the room.
-use Rattle.std.proofs.Common.{◌≡◌, ℕ, zero, suc, ◌+◌, ◌-◌, ◌<◌, ◌≤◌, Bool, true, false, cond, List, [], ◌∷◌}
-use Rattle.std.proofs.Common.{sum_by, arith, length, refl, ap, get_or, All}
+use Rattle.std.proofs.Common.{◌≡◌, ◌+◌, ◌-◌, ◌<◌, ◌≤◌, [], ◌∷◌, All, Bool, List, ap, arith, cond, false, get_or, length}
+use Rattle.std.proofs.Common.{refl, suc, sum_by, true, zero, ℕ}
 use Rattle.std.proofs.lemmas.List.Sums.{sum_by-cons}
 use Rattle.std.proofs.lemmas.List.Elements.{All-head, All-tail}
 use Rattle.table_widths.specs.declared.column.ColumnShare.{ColumnShare}

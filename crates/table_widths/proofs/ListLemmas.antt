@@ -1,6 +1,6 @@
 -- Columns from two lists.
-use Rattle.std.proofs.Common.{◌≡◌, ℕ, zero, suc, ◌+◌, ◌-◌, ◌<◌, ◌≤◌, List, [], ◌∷◌, ◌++◌, length, take, get_or, sum}
-use Rattle.std.proofs.Common.{sum_by, All, refl, ap, arith, add-one}
+use Rattle.std.proofs.Common.{◌≡◌, ◌+◌, ◌-◌, ◌<◌, ◌≤◌, [], ◌∷◌, ◌++◌, All, List, add-one, ap, arith, get_or, length}
+use Rattle.std.proofs.Common.{refl, suc, sum, sum_by, take, zero, ℕ}
 use Rattle.std.proofs.lemmas.List.Sums.{sum_by-cons}
 use Rattle.std.proofs.lemmas.List.Elements.{All-cons}
 use Rattle.table_widths.proofs.TotalLemmas.{sum_law}

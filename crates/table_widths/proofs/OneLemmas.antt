@@ -1,11 +1,10 @@
 -- Columns have one list of widths.
-use Rattle.std.proofs.Common.{◌≡◌, ℕ, ◌+◌, ◌-◌, ◌<◌, ◌≤◌, Bool, true, false, List, sum_by, nat_le}
-use Rattle.std.proofs.Common.{refl, sym, subst, ◌∙◌, arith}
+use Rattle.std.proofs.Common.{◌≡◌, ◌+◌, ◌-◌, ◌<◌, ◌≤◌, ◌∙◌, Bool, List, arith, false, nat_le, refl, subst, sum_by, sym}
+use Rattle.std.proofs.Common.{true, ℕ}
 use Rattle.std.proofs.lemmas.Bool.Decides.{nat_tests}
 use Rattle.std.proofs.lemmas.List.{ext_get_or}
 use Rattle.table_widths.specs.declared.column.ColumnShare.{ColumnShare}
-use Rattle.table_widths.specs.Widths.{filled, IsLevel, IsLowered, IsColumnWidths}
-use Rattle.table_widths.specs.Widths.{share_of, separators, room_of}
+use Rattle.table_widths.specs.Widths.{IsColumnWidths, IsLevel, IsLowered, filled, room_of, separators, share_of}
 
 one_level : (columns : List ColumnShare) (room a b : ℕ) → IsLevel columns room a → IsLevel columns room b → a ≡ b
 one_level columns room a b h k = let l = h.least b k.reaches in let r = k.least a h.reaches in omega arith

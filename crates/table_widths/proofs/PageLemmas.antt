@@ -1,6 +1,6 @@
 -- Cells and gaps of a table's rows, where each begins where another ends.
-use Rattle.std.proofs.Common.{◌≡◌, ℕ, zero, suc, ◌+◌, ◌<◌, ◌≤◌, ◌⊎◌, inl, inr, Bool, true, false, ◌&&◌, nat_lt, List}
-use Rattle.std.proofs.Common.{nat_le, length, ap, subst, sym, refl, ◌∙◌, arith, All}
+use Rattle.std.proofs.Common.{◌≡◌, ◌+◌, ◌<◌, ◌≤◌, ◌⊎◌, ◌&&◌, ◌∙◌, All, Bool, List, ap, arith, false, inl, inr, length}
+use Rattle.std.proofs.Common.{nat_le, nat_lt, refl, subst, suc, sym, true, zero, ℕ}
 use Rattle.std.specs.List.{AllByRecursion, AllPairs}
 use Rattle.std.proofs.lemmas.Bool.Decides.{nat_tests}
 use Rattle.std.proofs.lemmas.List.Elements.{All-from_recursion}

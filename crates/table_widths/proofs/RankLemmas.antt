@@ -1,7 +1,6 @@
 -- Which columns lose one.
-use Rattle.std.proofs.Common.{◌≡◌, ℕ, ◌+◌, ◌-◌, ◌<◌, ◌≤◌, Bool, true, false, cond, List, [], ◌∷◌, ◌&&◌, ◌||◌}
-use Rattle.std.proofs.Common.{length, take, get_or, nat_lt, nat_le, nat_eq, refl, ap, sym, arith, ◌∙◌}
-use Rattle.std.proofs.Common.{if◌then◌else◌}
+use Rattle.std.proofs.Common.{◌≡◌, ◌+◌, ◌-◌, ◌<◌, ◌≤◌, [], ◌∷◌, ◌&&◌, ◌||◌, ◌∙◌, if◌then◌else◌, Bool, List, ap, arith}
+use Rattle.std.proofs.Common.{cond, false, get_or, length, nat_eq, nat_le, nat_lt, refl, sym, take, true, ℕ}
 use Rattle.std.proofs.lemmas.Bool.Decides.{nat_tests}
 use Rattle.std.proofs.lemmas.List.Sums.{sum_by-cons, sum_by_more, sum_by-take-le}
 use Rattle.table_widths.specs.declared.column.ColumnShare.{ColumnShare}

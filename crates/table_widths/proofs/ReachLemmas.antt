@@ -1,6 +1,6 @@
 -- How many of the rows that are shown a cell reaches, from a row on.
-use Rattle.std.proofs.Common.{◌≡◌, ℕ, ◌+◌, ◌<◌, ◌≤◌, inl, inr, Bool, true, false, ◌&&◌, cond, nat_lt, nat_le, List}
-use Rattle.std.proofs.Common.{[], ◌∷◌, count_by, ap, sym, refl, ◌∙◌, arith}
+use Rattle.std.proofs.Common.{◌≡◌, ◌+◌, ◌<◌, ◌≤◌, ◌&&◌, [], ◌∷◌, ◌∙◌, Bool, List, ap, arith, cond, count_by, false, inl}
+use Rattle.std.proofs.Common.{inr, nat_le, nat_lt, refl, sym, true, ℕ}
 use Rattle.std.specs.List.{AllByRecursion}
 use Rattle.std.proofs.lemmas.Bool.Decides.{nat_tests}
 use Rattle.std.proofs.lemmas.List.Sums.{sum_by-cons}
@@ -52,10 +52,10 @@ none_before row r [] le h k = k
 none_before row r (x ∷ rows) le h (inl e) = let a = h.0 in omega arith
 none_before row r (x ∷ rows) le h (inr k) = none_before row r rows le h.1 k
 
-comes_behind : (row r : ℕ) (rows : List ℕ) → AllByRecursion (λ x. r < x) rows → Has (λ r. r ≡ row) rows → r < row
-comes_behind row r [] h k = absurd k
-comes_behind row r (x ∷ rows) h (inl e) = let a = h.0 in omega arith
-comes_behind row r (x ∷ rows) h (inr k) = comes_behind row r rows h.1 k
+comes_after : (row r : ℕ) (rows : List ℕ) → AllByRecursion (λ x. r < x) rows → Has (λ r. r ≡ row) rows → r < row
+comes_after row r [] h k = absurd k
+comes_after row r (x ∷ rows) h (inl e) = let a = h.0 in omega arith
+comes_after row r (x ∷ rows) h (inr k) = comes_after row r rows h.1 k
 
 -- a row that is one of them is passed
 pub reach_with : (rows : List ℕ) (row bottom : ℕ) → Pairs (λ x y. x < y) rows → Has (λ r. r ≡ row) rows →
@@ -70,7 +70,7 @@ reach_with (r ∷ rows) row bottom order (inl e) lt =
     omega arith
 reach_with (r ∷ rows) row bottom order (inr h) lt =
     let rest : reach rows row bottom ≡ reach rows (row + 1) bottom + 1 = reach_with rows row bottom order.1 h lt in
-    let before : r < row = comes_behind row r rows order.0 h in
+    let before : r < row = comes_after row r rows order.0 h in
     let a = reach_cons r rows row bottom in let b = reach_cons r rows (row + 1) bottom in
     let one = counts_before row r bottom before in
     let none = counts_before (row + 1) r bottom (omega arith) in

@@ -1,6 +1,6 @@
 -- Rows one after another: of a list whose rows don't fall, what is of a row stands side by side.
-use Rattle.std.proofs.Common.{◌≡◌, ℕ, zero, suc, ◌+◌, ◌<◌, ◌≤◌, Bool, cond, true, false, List, [], ◌∷◌, ◌++◌}
-use Rattle.std.proofs.Common.{length, get_or, drop, map, filter, All, refl, ap, sym, ◌∙◌, append_assoc, arith}
+use Rattle.std.proofs.Common.{◌≡◌, ◌+◌, ◌<◌, ◌≤◌, [], ◌∷◌, ◌++◌, ◌∙◌, All, Bool, List, ap, append_assoc, arith, cond}
+use Rattle.std.proofs.Common.{drop, false, filter, get_or, length, map, refl, suc, sym, true, zero, ℕ}
 use Rattle.std.specs.List.Sorted.{IsNonDecreasingBy}
 use Rattle.std.proofs.lemmas.Bool.{false_from_ne_true}
 use Rattle.std.proofs.lemmas.List.{drop_more, append-nil, get_or_default, get_or-drop, length-drop}
@@ -31,7 +31,7 @@ filter-yes test xs at d lt e =
 pub record AreTaken {X : Type 0} (key : X → ℕ) (is_of : ℕ → X → Bool) (slot : X → Slot) (xs : List X) (row at : ℕ)
     (slots : List Slot) : Type 0 where
   pub taken : slots ++ map slot (filter (is_of row) (drop at xs)) ≡ map slot (filter (is_of row) xs)
-  pub behind : HasRowsFrom is_of xs (row + 1) at
+  pub trailing : HasRowsFrom is_of xs (row + 1) at
   pub reached : (d : X) → at < length xs → row ≤ key (get_or xs at d)
 
 module _ {X : Type 0} (key : X → ℕ) (is_of : ℕ → X → Bool)
@@ -51,7 +51,7 @@ module _ {X : Type 0} (key : X → ℕ) (is_of : ℕ → X → Bool)
         ((d : X) → at < length xs → row ≤ key (get_or xs at d)) → AreTaken key is_of slot xs row at []
     taken_first xs row at h reached = record {
       taken = ap (map slot) (h.all row (omega arith));
-      behind = record { all = λ later le. h.all later (omega arith) };
+      trailing = record { all = λ later le. h.all later (omega arith) };
       reached = reached;
     }
 
@@ -69,7 +69,7 @@ module _ {X : Type 0} (key : X → ℕ) (is_of : ℕ → X → Bool)
         record {
           taken = append_assoc slots (slot (get_or xs at d) ∷ []) (map slot (filter (is_of row) (drop (at + 1) xs)))
               ∙ ap (λ (ys : List X). slots ++ map slot ys) (filter-yes (is_of row) xs at d lt is) ∙ h.taken;
-          behind = rows_skipped xs (row + 1) at d lt (omega arith) h.behind;
+          trailing = rows_skipped xs (row + 1) at d lt (omega arith) h.trailing;
           reached = next_reached xs row at d rises lt same;
         }
 
@@ -79,13 +79,13 @@ module _ {X : Type 0} (key : X → ℕ) (is_of : ℕ → X → Bool)
         AreTaken key is_of slot xs row at slots → AreTaken key is_of slot xs row (at + 1) slots
     taken_same xs row at slots d rises lt same left h = record {
       taken = ap (λ (ys : List X). slots ++ map slot ys) (filter-no (is_of row) xs at d lt left) ∙ h.taken;
-      behind = rows_skipped xs (row + 1) at d lt (omega arith) h.behind;
+      trailing = rows_skipped xs (row + 1) at d lt (omega arith) h.trailing;
       reached = next_reached xs row at d rises lt same;
     }
 
-    none_behind : (xs : List X) (row at : ℕ) → IsNonDecreasingBy key xs →
+    none_after : (xs : List X) (row at : ℕ) → IsNonDecreasingBy key xs →
         ((d : X) → at < length xs → row < key (get_or xs at d)) → filter (is_of row) (drop at xs) ≡ []
-    none_behind xs row at rises past = filter-none (is_of row) (drop at xs)
+    none_after xs row at rises past = filter-none (is_of row) (drop at xs)
         (λ k d lt. not_of row (get_or (drop at xs) k d) (λ e.
         let n = length-drop at xs in
         let here : key (get_or xs (at + k) d) ≡ row = ap key (sym (get_or-drop at xs k d)) ∙ e in
@@ -98,5 +98,5 @@ module _ {X : Type 0} (key : X → ℕ) (is_of : ℕ → X → Bool)
         slots ≡ map slot (filter (is_of row) xs)
     taken_all xs row at slots rises other h =
         let none : filter (is_of row) (drop at xs) ≡ [] =
-        none_behind xs row at rises (λ d lt. let le = h.reached d lt in let ne = other d lt in omega arith) in
+        none_after xs row at rises (λ d lt. let le = h.reached d lt in let ne = other d lt in omega arith) in
         sym (append-nil slots) ∙ ap (λ (ys : List X). slots ++ map slot ys) (sym none) ∙ h.taken

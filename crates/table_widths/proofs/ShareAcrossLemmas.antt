@@ -1,12 +1,11 @@
 -- The widths of a table's columns, as a function.
-use Rattle.std.proofs.Common.{◌≡◌, ℕ, ◌+◌, ◌<◌, ◌≤◌, Bool, true, false, nat_le, nat_lt, if◌then◌else◌, List, None}
-use Rattle.std.proofs.Common.{Some, IfSome, length, sum, sum_by, refl, ap, ◌∙◌, arith}
+use Rattle.std.proofs.Common.{◌≡◌, ◌+◌, ◌<◌, ◌≤◌, if◌then◌else◌, ◌∙◌, Bool, IfSome, List, None, Some, ap, arith, false}
+use Rattle.std.proofs.Common.{length, nat_le, nat_lt, refl, sum, sum_by, true, ℕ}
 use Rattle.std.proofs.lemmas.List.{length-map}
 use Rattle.std.proofs.lemmas.Bool.Decides.{nat_tests}
 use Rattle.table_widths.specs.declared.column.ColumnShare.{ColumnShare}
 use Rattle.table_widths.specs.TheWidths.{widths_of}
-use Rattle.table_widths.specs.Widths.{IsColumnWidths, columns_of, separators, share_of}
-use Rattle.table_widths.specs.Widths.{least_of as column_least}
+use Rattle.table_widths.specs.Widths.{IsColumnWidths, columns_of, least_of as column_least, separators, share_of}
 use Rattle.table_widths.proofs.ListLemmas.{fit_lists, length-columns_of}
 use Rattle.table_grid.specs.declared.columns.Column.{Column}
 use Rattle.table_widths.specs.Across.{FitAcross, widths_across}

@@ -1,12 +1,12 @@
 -- Shares in a width, and what a table asks for.
-use Rattle.std.proofs.Common.{◌≡◌, ℕ, ◌+◌, ◌-◌, ◌*◌, ◌/◌, ◌<◌, ◌≤◌, List, [], ◌∷◌, length, sum, sum_by}
-use Rattle.std.proofs.Common.{map, refl, subst, sym, arith, All}
+use Rattle.std.proofs.Common.{◌≡◌, ◌+◌, ◌-◌, ◌*◌, ◌/◌, ◌<◌, ◌≤◌, [], ◌∷◌, All, List, arith, length, map, refl, subst}
+use Rattle.std.proofs.Common.{sum, sum_by, sym, ℕ}
 use Rattle.std.proofs.Math.Nat.{lt_of_mul-lt-mul_right}
 use Rattle.std.proofs.lemmas.List.Sums.{sum_by-cons}
 use Rattle.std.proofs.lemmas.List.Elements.{All-head, All-tail}
 use Rattle.table_grid.specs.declared.columns.Column.{Column}
-use Rattle.table_widths.specs.Shares.{size_of, least_of, share_of, shares_of, total_of, least_width, AreSized}
-use Rattle.table_widths.specs.Shares.{table_asks}
+use Rattle.table_widths.specs.Shares.{AreSized, least_of, least_width, share_of, shares_of, size_of, table_asks}
+use Rattle.table_widths.specs.Shares.{total_of}
 use Rattle.table_widths.proofs.FitLemmas.{total_some, no_column, least_share}
 
 leasts_less : (cs : List Column) → All (λ c. c.least ≤ c.size) cs → sum_by least_of cs ≤ sum_by size_of cs

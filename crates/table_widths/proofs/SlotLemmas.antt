@@ -1,6 +1,6 @@
 -- The slots of a row: of its own cells, of its gaps, and of cells of rows above.
-use Rattle.std.proofs.Common.{◌≡◌, ℕ, ◌<◌, ◌≤◌, inl, inr, Bool, true, false, ◌&&◌, nat_lt, ◌==◌, List, length, get_or}
-use Rattle.std.proofs.Common.{map, filter, subst, sym, refl, ◌∙◌, arith, Contains}
+use Rattle.std.proofs.Common.{◌≡◌, ◌<◌, ◌≤◌, ◌&&◌, ◌==◌, ◌∙◌, Bool, Contains, List, arith, false, filter, get_or, inl}
+use Rattle.std.proofs.Common.{inr, length, map, nat_lt, refl, subst, sym, true, ℕ}
 use Rattle.std.specs.List.{AllByRecursion}
 use Rattle.std.proofs.lemmas.Bool.Decides.{nat_tests}
 use Rattle.std.proofs.lemmas.List.Elements.{recursion_from_All}
@@ -10,7 +10,7 @@ use Rattle.table_grid.specs.Gaps.{IsGap, BeginsIn, IsBefore, gap_of}
 use Rattle.table_grid.specs.PlaceLaws.{placed_at}
 use Rattle.table_grid.specs.Places.{right_of, bottom_of}
 use Rattle.table_widths.specs.declared.slot.Slot.{Slot}
-use Rattle.table_widths.proofs.EachLemmas.{Has, each_at, each_weaker, each_kept, has_at, has_kept, pairs_from}
+use Rattle.table_widths.proofs.EachLemmas.{Has, each_at, each_kept, each_weaker, has_at, has_kept, pairs_from}
 use Rattle.table_widths.proofs.EachLemmas.{pairs_kept}
 use Rattle.table_widths.proofs.StandLemmas.{EndsBefore, AreInOrder}
 use Rattle.table_widths.proofs.ReachLemmas.{reach}

@@ -1,6 +1,6 @@
 -- Slots in order, and without a hole; slots among which others are put.
-use Rattle.std.proofs.Common.{◌≡◌, ℕ, suc, ◌+◌, ◌<◌, ◌≤◌, ◌⊎◌, inl, inr, Bool, true, false, cond, nat_lt, List, []}
-use Rattle.std.proofs.Common.{◌∷◌, ◌++◌, take, drop, ap, subst, sym, refl, arith}
+use Rattle.std.proofs.Common.{◌≡◌, ◌+◌, ◌<◌, ◌≤◌, ◌⊎◌, [], ◌∷◌, ◌++◌, Bool, List, ap, arith, cond, drop, false, inl}
+use Rattle.std.proofs.Common.{inr, nat_lt, refl, subst, suc, sym, take, true, ℕ}
 use Rattle.std.specs.List.{AllByRecursion, prefix_len}
 use Rattle.std.proofs.lemmas.Bool.Decides.{nat_tests}
 use Rattle.table_widths.specs.declared.slot.Slot.{Slot}
@@ -27,17 +27,17 @@ EndsAt column t = (t.first < t.last) × (t.last ≡ column)
 abbrev pub BeginsAt : ℕ → List Slot → Slot → Type 0
 BeginsAt from slots s = (s.first ≡ from) ⊎ Has (EndsAt s.first) slots
 
-none_ends_behind : (column : ℕ) (s : Slot) (slots : List Slot) → column ≤ s.last →
+none_ends_after : (column : ℕ) (s : Slot) (slots : List Slot) → column ≤ s.last →
     AllByRecursion (EndsBefore s) slots → Has (EndsAt column) slots → ⊥
-none_ends_behind column s [] le order h = h
-none_ends_behind column s (t ∷ slots) le order (inl e) =
+none_ends_after column s [] le order h = h
+none_ends_after column s (t ∷ slots) le order (inl e) =
     let a = order.0 in let b = e.0 in let c = e.1 in omega arith
-none_ends_behind column s (t ∷ slots) le order (inr h) = none_ends_behind column s slots le order.1 h
+none_ends_after column s (t ∷ slots) le order (inr h) = none_ends_after column s slots le order.1 h
 
 pub stand_from : (from : ℕ) (slots : List Slot) → AreInOrder slots → AllByRecursion (λ s. s.first ≤ s.last) slots →
     AllByRecursion (λ s. from ≤ s.first) slots → AllByRecursion (BeginsAt from slots) slots → StandFrom from slots
-stand_from from [] order some behind begins = tt
-stand_from from (s ∷ slots) order some behind begins = (
+stand_from from [] order some trailing begins = tt
+stand_from from (s ∷ slots) order some trailing begins = (
   here begins.0,
   (
     some.0,
@@ -50,7 +50,7 @@ stand_from from (s ∷ slots) order some behind begins = (
     here : BeginsAt from (s ∷ slots) s → s.first ≡ from
     here (inl e) = e
     here (inr (inl e)) = absurd (let a = e.0 in let b = e.1 in omega arith)
-    here (inr (inr h)) = absurd (none_ends_behind s.first s slots some.0 order.0 h)
+    here (inr (inr h)) = absurd (none_ends_after s.first s slots some.0 order.0 h)
 
     later : s.first ≡ from → (u : Slot) → BeginsAt from (s ∷ slots) u → s.last ≤ u.first → BeginsAt s.last slots u
     later first u (inl e) o = inl (let a = some.0 in omega arith)
@@ -58,13 +58,13 @@ stand_from from (s ∷ slots) order some behind begins = (
     later first u (inr (inr h)) o = inr h
 
 -- ---- others among slots
-abbrev pub BeginsBehind : Slot → List Slot → Type 0
-BeginsBehind s [] = Unit {0}
-BeginsBehind s (t ∷ slots) = s.first ≤ t.first
+abbrev pub BeginsAfter : Slot → List Slot → Type 0
+BeginsAfter s [] = Unit {0}
+BeginsAfter s (t ∷ slots) = s.first ≤ t.first
 
 pub data IsMerged : List Slot → List Slot → List Slot → Type 0 where
   over : {others : List Slot} → IsMerged [] others others
-  one : {s : Slot} {slots others rest : List Slot} → BeginsBehind s others → IsMerged slots others rest →
+  one : {s : Slot} {slots others rest : List Slot} → BeginsAfter s others → IsMerged slots others rest →
       IsMerged (s ∷ slots) others (s ∷ rest)
   other : {s t : Slot} {slots others rest : List Slot} → t.first < s.first → IsMerged (s ∷ slots) others rest →
       IsMerged (s ∷ slots) (t ∷ others) (t ∷ rest)
@@ -138,11 +138,11 @@ merged_has P (other first m) (inl p) = inr (inl p)
 merged_has P (other first m) (inr h) = or_second (merged_has P m h)
 
 -- others that are apart from a slot and don't begin before it stand after it
-behind_slot : (s : Slot) (others : List Slot) → BeginsBehind s others → AreInOrder others →
+after_slot : (s : Slot) (others : List Slot) → BeginsAfter s others → AreInOrder others →
     AllByRecursion (λ t. t.first < t.last) others → AllByRecursion (AreApart s) others →
     AllByRecursion (EndsBefore s) others
-behind_slot s [] first order some apart = tt
-behind_slot s (t ∷ others) first order some apart = (
+after_slot s [] first order some apart = tt
+after_slot s (t ∷ others) first order some apart = (
   by t first some.0 apart.0,
   each_both (EndsBefore t) (λ u. (u.first < u.last) × AreApart s u) (EndsBefore s)
       (λ u o a. let f : s.first ≤ t.first = first in let l = some.0 in
@@ -161,7 +161,7 @@ pub order_merged : {slots others whole : List Slot} → IsMerged slots others wh
     AllByRecursion (λ s. AllByRecursion (AreApart s) others) slots → AreInOrder whole
 order_merged over order others_order some others_some apart = others_order
 order_merged {slots = s ∷ slots} {others = others} (one first m) order others_order some others_some apart = (
-  each_merged (EndsBefore s) m order.0 (behind_slot s others first others_order others_some apart.0),
+  each_merged (EndsBefore s) m order.0 (after_slot s others first others_order others_some apart.0),
   order_merged m order.1 others_order some.1 others_some apart.1,
 )
 order_merged {slots = s ∷ slots} {others = t ∷ others} (other first m) order others_order some others_some apart = (

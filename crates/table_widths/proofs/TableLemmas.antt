@@ -1,6 +1,6 @@
 -- The rows of a table's grid: which are shown, and the slots of each.
-use Rattle.std.proofs.Common.{rules, ◌≡◌, ℕ, zero, suc, ◌+◌, ◌<◌, ◌≤◌, Bool, true, false, ◌==◌, cond, eqb, List, []}
-use Rattle.std.proofs.Common.{◌∷◌, length, get_or, map, filter, ap, refl, arith, Contains, inl, inr}
+use Rattle.std.proofs.Common.{◌≡◌, ◌+◌, ◌<◌, ◌≤◌, ◌==◌, [], ◌∷◌, Bool, Contains, List, ap, arith, cond, eqb, false}
+use Rattle.std.proofs.Common.{filter, get_or, inl, inr, length, map, refl, rules, suc, true, zero, ℕ}
 use Rattle.std.specs.List.{AllByRecursion, AllPairs, zip}
 use Rattle.std.specs.List.Sorted.{IsSorted}
 use Rattle.std.specs.Ordering.{nat_cmp, is_lt}

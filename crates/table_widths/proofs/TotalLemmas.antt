@@ -1,15 +1,14 @@
 -- What lowered columns add up to.
-use Rattle.std.proofs.Common.{◌≡◌, ℕ, zero, suc, ◌+◌, ◌-◌, ◌<◌, ◌≤◌, min, Bool, true, false, cond, List, [], ◌∷◌, ◌&&◌}
-use Rattle.std.proofs.Common.{◌||◌, length, take, get_or, sum, sum_by, nat_lt, nat_le, nat_eq, refl, ap}
-use Rattle.std.proofs.Common.{map, arith, ◌∙◌, subst, add-one, take_all, All}
+use Rattle.std.proofs.Common.{◌≡◌, ◌+◌, ◌-◌, ◌<◌, ◌≤◌, [], ◌∷◌, ◌&&◌, ◌||◌, ◌∙◌, All, Bool, List, add-one, ap, arith}
+use Rattle.std.proofs.Common.{cond, false, get_or, length, map, min, nat_eq, nat_le, nat_lt, refl, subst, suc, sum}
+use Rattle.std.proofs.Common.{sum_by, take, take_all, true, zero, ℕ}
 use Rattle.std.proofs.lemmas.Bool.Decides.{nat_tests}
 use Rattle.std.proofs.lemmas.List.Sums.{sum_by-cons, sum_by_more, get_or-le-sum_by}
 use Rattle.std.proofs.lemmas.List.{get_or-map}
 use Rattle.table_widths.specs.declared.column.ColumnShare.{ColumnShare}
-use Rattle.table_widths.specs.Widths.{slack_of, least_of, part_at, filled, is_wider, is_equal, wider, equal, width_at}
-use Rattle.table_widths.specs.Widths.{column_at, IsLevel, IsLowered, IsColumnWidths, share_of}
+use Rattle.table_widths.specs.Widths.{IsColumnWidths, IsLevel, IsLowered, column_at, equal, filled, is_equal, is_wider}
+use Rattle.table_widths.specs.Widths.{least_of, part_at, room_of, separators, share_of, slack_of, wider, width_at}
 use Rattle.table_widths.specs.Edges.{IsEdge}
-use Rattle.table_widths.specs.Widths.{separators, room_of}
 use Rattle.table_widths.proofs.LevelLemmas.{wider-none, edge_past}
 use Rattle.table_widths.proofs.RankLemmas.{decides, equal_more}
 

@@ -1,6 +1,6 @@
 -- Turns of the loop that takes one column of text at a time.
-use Rattle.std.proofs.Common.{◌≡◌, ℕ, zero, suc, ◌+◌, ◌-◌, ◌<◌, ◌≤◌, Bool, true, false, nat_eq, nat_le, List}
-use Rattle.std.proofs.Common.{length, get_or, set, sum, sum_by, map, refl, sym, ap, subst, ◌∙◌, arith, add-one, All}
+use Rattle.std.proofs.Common.{◌≡◌, ◌+◌, ◌-◌, ◌<◌, ◌≤◌, ◌∙◌, All, Bool, List, add-one, ap, arith, false, get_or, length}
+use Rattle.std.proofs.Common.{map, nat_eq, nat_le, refl, set, subst, suc, sum, sum_by, sym, true, zero, ℕ}
 use Rattle.std.proofs.lemmas.Bool.Decides.{nat_tests}
 use Rattle.std.proofs.lemmas.List.{get_or-map, get_or-set_same, get_or-set_other, length-map, length-set}
 use Rattle.std.proofs.lemmas.List.Sums.{sum_by-set}

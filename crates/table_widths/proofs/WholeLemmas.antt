@@ -6,8 +6,8 @@ use Rattle.table_widths.specs.declared.slot.Slot.{Slot}
 use Rattle.table_widths.specs.RowLaws.{IsWhole}
 use Rattle.table_widths.specs.Slots.{merged}
 use Rattle.table_widths.proofs.EachLemmas.{Has, each_weaker, each_always}
-use Rattle.table_widths.proofs.StandLemmas.{EndsAt, BeginsAt, AreInOrder, AreApart, stand_from, merging, each_merged}
-use Rattle.table_widths.proofs.StandLemmas.{has_merged, other_merged, order_merged}
+use Rattle.table_widths.proofs.StandLemmas.{AreApart, AreInOrder, BeginsAt, EndsAt, each_merged, has_merged, merging}
+use Rattle.table_widths.proofs.StandLemmas.{order_merged, other_merged, stand_from}
 
 -- it begins at the first column, or where a slot of the row ends
 abbrev pub BeginsAmong : (own gaps above : List Slot) → Slot → Type 0

@@ -1,13 +1,13 @@
 -- The widths that a function gives are those that the relation says.
-use Rattle.std.proofs.Common.{◌≡◌, ℕ, ◌+◌, ◌-◌, ◌<◌, ◌≤◌, Bool, true, false, nat_le, nat_lt, if◌then◌else◌, List}
-use Rattle.std.proofs.Common.{[], ◌∷◌, length, map, sum_by, subst, refl, arith}
+use Rattle.std.proofs.Common.{◌≡◌, ◌+◌, ◌-◌, ◌<◌, ◌≤◌, if◌then◌else◌, [], ◌∷◌, Bool, List, arith, false, length, map}
+use Rattle.std.proofs.Common.{nat_le, nat_lt, refl, subst, sum_by, true, ℕ}
 use Rattle.std.proofs.lemmas.Bool.Decides.{nat_tests}
 use Rattle.std.proofs.lemmas.List.FromFn.{length-map-range_with_len, get_or-map-range_with_len}
 use Rattle.std.proofs.lemmas.List.Sums.{sum_by-cons}
 use Rattle.table_widths.specs.declared.column.ColumnShare.{ColumnShare}
 use Rattle.table_widths.specs.TheWidths.{level_of, width_of_column, lowered, cut_widths, widths_of}
-use Rattle.table_widths.specs.Widths.{slack_of, least_of, share_of, separators, room_of, filled, IsLevel, IsLowered}
-use Rattle.table_widths.specs.Widths.{IsColumnWidths}
+use Rattle.table_widths.specs.Widths.{IsColumnWidths, IsLevel, IsLowered, filled, least_of, room_of, separators}
+use Rattle.table_widths.specs.Widths.{share_of, slack_of}
 use Rattle.table_widths.proofs.FirstLemmas.{IsFirst, first_is}
 use Rattle.table_widths.proofs.LevelLemmas.{filled-room}
 

@@ -1,6 +1,6 @@
 -- The rows of a table, as they are to be shown: which columns of its grid each cell takes, and where a place is empty.
-use Rattle.std.specs.Prelude.{ℕ, ◌-◌, ◌==◌, Bool, true, false, ◌&&◌, nat_lt, if◌then◌else◌, List, [], ◌∷◌, ◌++◌}
-use Rattle.std.specs.Prelude.{map, filter, drop}
+use Rattle.std.specs.Prelude.{◌-◌, ◌==◌, ◌&&◌, if◌then◌else◌, [], ◌∷◌, ◌++◌, Bool, List, drop, false, filter, map}
+use Rattle.std.specs.Prelude.{nat_lt, true, ℕ}
 use Rattle.std.specs.List.{list_any, prefix_len, range_with_len, take_while, zip}
 use Rattle.table_grid.specs.declared.cell.Cell.{Cell}
 use Rattle.table_grid.specs.TheGrid.{TheGrid, grid}
@@ -68,12 +68,12 @@ abbrev pub covered : Slot → Slot
 covered s = record { first = s.first; last = s.last; rows = s.rows - 1; is_cell = false }
 
 -- where cells of a row go on into the next
-abbrev pub covered_behind : List Slot → List Slot
-covered_behind slots = map covered (filter goes_on slots)
+abbrev pub covered_after : List Slot → List Slot
+covered_after slots = map covered (filter goes_on slots)
 
 -- Rows across: after a row that is shown its cells go on, in places that are empty in the rows below.
 abbrev pub across : (above : List Slot) → List (List Slot) → List (List Slot)
 across above [] = []
 across above (slots ∷ rows) =
-    if is_shown slots then merged slots above ∷ across (covered_behind (merged slots above)) rows
+    if is_shown slots then merged slots above ∷ across (covered_after (merged slots above)) rows
     else slots ∷ across above rows

@@ -1,6 +1,6 @@
 -- The widths of a table's columns: what the shares give, or the shares lowered to a level.
-use Rattle.std.specs.Prelude.{◌≡◌, ℕ, ◌+◌, ◌-◌, ◌<◌, ◌≤◌, min, Bool, ◌&&◌, if◌then◌else◌, nat_eq, nat_lt, nat_le, List}
-use Rattle.std.specs.Prelude.{length, get_or, take, sum_by, count_by, map, [], ◌∷◌}
+use Rattle.std.specs.Prelude.{◌≡◌, ◌+◌, ◌-◌, ◌<◌, ◌≤◌, ◌&&◌, if◌then◌else◌, [], ◌∷◌, Bool, List, count_by, get_or}
+use Rattle.std.specs.Prelude.{length, map, min, nat_eq, nat_le, nat_lt, sum_by, take, ℕ}
 use Rattle.table_widths.specs.declared.column.ColumnShare.{ColumnShare}
 
 -- how far a column can be lowered

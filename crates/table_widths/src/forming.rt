@@ -25,7 +25,7 @@ fn cells_of_row(
     requires rows { IsNonDecreasingBy (λ c. c.row) cells.now }
     requires from { HasRowsFrom is_cell_of (zip cells.now placed.now) row from }
     ensures slots { IfOk result (λ r. r.0.items ≡ cells_in cells.now placed.now row) }
-    ensures behind { IfOk result (λ r. HasRowsFrom is_cell_of (zip cells.now placed.now) (row + 1) r.1) }
+    ensures trailing { IfOk result (λ r. HasRowsFrom is_cell_of (zip cells.now placed.now) (row + 1) r.1) }
 {
     let mut slots = Vec::new(alloc);
     let mut at = from;
@@ -54,7 +54,7 @@ fn gaps_of_row(
     requires rows { IsNonDecreasingBy (λ g. g.row) gaps.now }
     requires from { HasRowsFrom is_gap_of gaps.now row from }
     ensures slots { IfOk result (λ r. r.0.items ≡ gaps_in gaps.now row) }
-    ensures behind { IfOk result (λ r. HasRowsFrom is_gap_of gaps.now (row + 1) r.1) }
+    ensures trailing { IfOk result (λ r. HasRowsFrom is_gap_of gaps.now (row + 1) r.1) }
 {
     let mut slots = Vec::new(alloc);
     let mut at = from;
@@ -94,9 +94,9 @@ fn rows_of(
     let mut gap = 0;
     'rows: while rows.len() < count {
         let row = rows.len() + 1;
-        let (own, behind) = cells_of_row(alloc, cells, placed, row, cell)?;
+        let (own, trailing) = cells_of_row(alloc, cells, placed, row, cell)?;
         let (empty, after) = gaps_of_row(alloc, gaps, row, gap)?;
-        cell = behind;
+        cell = trailing;
         gap = after;
         rows.push(merged(alloc, own, empty.as_slice())?)?;
     }

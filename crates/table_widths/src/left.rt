@@ -3,7 +3,7 @@ ghost use Rattle.std.specs.Prelude.{◌≡◌, [], ◌∷◌, ◌<◌, IfOk, dro
 ghost use Rattle.table_widths.specs.Slots.{across};
 ghost use Rattle.table_widths.specs.Tables.{IsNext, rows_left, rows_seen};
 
-use crate::merging::{covered_behind, is_shown, merged};
+use crate::merging::{covered_after, is_shown, merged};
 use crate::slot::Slot;
 use std::alloc::{AllocError, Global};
 
@@ -55,7 +55,7 @@ impl RowsLeft {
             return Ok(Some(slots));
         }
         let row = merged(alloc, slots, self.above.as_slice())?;
-        self.above = covered_behind(alloc, row.as_slice())?;
+        self.above = covered_after(alloc, row.as_slice())?;
         Ok(Some(row))
     }
 }

@@ -80,10 +80,16 @@ pub use column::ColumnShare;
 pub use forming::table_of;
 pub use left::RowsLeft;
 pub use merging::is_shown;
-pub use share_laws::{ shares_pass_the_width_by_at_most_the_width, shares_stand_between_least_and_size, tables_ask_for_their_least, widths_across_fit, };
+pub use share_laws::{
+    shares_pass_the_width_by_at_most_the_width, shares_stand_between_least_and_size,
+    tables_ask_for_their_least, widths_across_fit,
+};
 pub use shares::{asked_by_table, widths_across};
 pub use sharing::column_widths;
 pub use slot::Slot;
 pub use slot_laws::rows_across_are_whole;
 pub use table::Table;
-pub use width_laws::{ columns_have_one_list_of_widths, columns_have_widths, one_at_a_time_comes_to_the_widths, widths_fit_the_width, widths_stand_between_least_and_share, };
+pub use width_laws::{
+    columns_have_one_list_of_widths, columns_have_widths, one_at_a_time_comes_to_the_widths,
+    widths_fit_the_width, widths_stand_between_least_and_share,
+};

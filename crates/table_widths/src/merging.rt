@@ -1,7 +1,7 @@
 //! Slots of a row in order.
 ghost use Rattle.std.specs.Prelude.{◌≡◌, ◌++◌, IfOk, OnOk, drop};
 ghost use Rattle.std.specs.List.{prefix_len, take_while};
-ghost use Rattle.table_widths.specs.Slots.{begins_before, covered_behind, is_shown, merged};
+ghost use Rattle.table_widths.specs.Slots.{begins_before, covered_after, is_shown, merged};
 
 use crate::slot::Slot;
 use std::alloc::{AllocError, Global};
@@ -58,8 +58,8 @@ pub fn is_shown(slots: &[Slot]) -> bool
 }
 
 /// Where cells of a row go on into the next.
-pub(crate) fn covered_behind(alloc: Global, slots: &[Slot]) -> Result<Vec<Slot>, AllocError>
-    ensures { IfOk result (λ v. v.items ≡ covered_behind slots.now) }
+pub(crate) fn covered_after(alloc: Global, slots: &[Slot]) -> Result<Vec<Slot>, AllocError>
+    ensures { IfOk result (λ v. v.items ≡ covered_after slots.now) }
 {
     let mut covered = Vec::new(alloc);
     for slot in slots {

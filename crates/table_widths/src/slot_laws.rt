@@ -5,7 +5,9 @@ ghost use Rattle.table_grid.specs.declared.cell.Cell.{Cell};
 ghost use Rattle.table_widths.specs.RowLaws.{AreWholeRows};
 ghost use Rattle.table_widths.specs.Slots.{table};
 
-use table_grid::{cells_begin_behind_cells, cells_have_a_grid, cells_share_no_slot, rows_have_no_hole};
+use table_grid::{
+    cells_begin_after_cells, cells_have_a_grid, cells_share_no_slot, rows_have_no_hole,
+};
 
 /// In each row that is shown across, the slots of its cells, of its gaps and of cells from above take columns side by
 /// side, from the first on.
@@ -16,6 +18,6 @@ pub fn rows_across_are_whole()
 {
     cells_have_a_grid();
     cells_share_no_slot();
-    cells_begin_behind_cells();
+    cells_begin_after_cells();
     rows_have_no_hole();
 }

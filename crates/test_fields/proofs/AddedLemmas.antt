@@ -1,11 +1,11 @@
 -- What is read of a text that another was added to.
-use Rattle.std.proofs.Common.{◌≡◌, ℕ, zero, suc, ◌+◌, ◌<◌, ◌%◌, ◌/◌, ◌==◌, Bool, true, false, List, [], ◌∷◌, ◌++◌, OnOk}
-use Rattle.std.proofs.Common.{IsUtf8, IsAscii, Result, Ok, Err, is_ok, encode_utf8, nat_lt, if◌then◌else◌}
-use Rattle.std.proofs.Common.{ap, subst, sym, refl, ◌∙◌, append-nil, append_assoc, arith}
+use Rattle.std.proofs.Common.{◌≡◌, ◌+◌, ◌<◌, ◌%◌, ◌/◌, ◌==◌, [], ◌∷◌, ◌++◌, if◌then◌else◌, ◌∙◌, Bool, Err, IsAscii}
+use Rattle.std.proofs.Common.{IsUtf8, List, Ok, OnOk, Result, ap, append-nil, append_assoc, arith, encode_utf8, false}
+use Rattle.std.proofs.Common.{is_ok, nat_lt, refl, subst, suc, sym, true, zero, ℕ}
 use Rattle.std.proofs.lemmas.Bool.Decides.{nat_tests}
 use Rattle.std.proofs.lemmas.Nat.{mod_below}
-use Rattle.std.proofs.lemmas.Str.{IsAscii-append, IsUtf8-encode, chars-append, chars-IsAscii}
-use Rattle.std.proofs.lemmas.Str.{chars-nil, chars_past_char}
+use Rattle.std.proofs.lemmas.Str.{IsAscii-append, IsUtf8-encode, chars-IsAscii, chars-append, chars-nil}
+use Rattle.std.proofs.lemmas.Str.{chars_past_char}
 use Rattle.std.proofs.lemmas.Str.Ascii.{IsAscii-cons, IsAscii-nil}
 use Rattle.std.proofs.lemmas.Result.{on_ok_weaker}
 use Rattle.std.specs.Char.{IsScalar}
@@ -82,9 +82,9 @@ pub escape_seen : (c : ℕ) → (c == 92) ≡ false → (c == 10) ≡ false → 
 escape_seen c a b d e u = grind (arith, nat_tests, a, b, d, e, u)
 
 -- one character more, and then a text
-pub behind_one : (old mid new cs : List ℕ) (c : ℕ) → IsScalar c → IsUtf8 old → mid ≡ old ++ encode_utf8 c
+pub after_one : (old mid new cs : List ℕ) (c : ℕ) → IsScalar c → IsUtf8 old → mid ≡ old ++ encode_utf8 c
     → chars new ≡ chars mid ++ cs → chars new ≡ chars old ++ c ∷ cs
-behind_one old mid new cs c scalar utf8 one more =
+after_one old mid new cs c scalar utf8 one more =
     more ∙ ap (λ bs. chars bs ++ cs) one
     ∙ ap (λ l. l ++ cs) (chars-append old (encode_utf8 c) utf8 ∙ ap (λ l. chars old ++ l) (chars-encode c scalar))
     ∙ append_assoc (chars old) (c ∷ []) cs

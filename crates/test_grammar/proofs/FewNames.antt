@@ -1,6 +1,6 @@
 -- A table of few names, computed: what is read with it is what is read with a search of its list.
-use Rattle.std.proofs.Common.{◌≡◌, ℕ, zero, suc, List, [], ◌∷◌, ◌++◌, length, drop, reverse, Option, Some, None}
-use Rattle.std.proofs.Common.{option_map, option_and_then, cond, ◌==◌, refl, ap, ◌∙◌}
+use Rattle.std.proofs.Common.{◌≡◌, [], ◌∷◌, ◌++◌, ◌==◌, ◌∙◌, List, None, Option, Some, ap, cond, drop, length}
+use Rattle.std.proofs.Common.{option_and_then, option_map, refl, reverse, suc, zero, ℕ}
 use Rattle.std.proofs.lemmas.Cmp.{nat_list_cmp_total}
 use Rattle.std.specs.Cmp.Lexicographic.{slice_cmp}
 use Rattle.std.specs.FinMap as finite
@@ -9,7 +9,7 @@ use Rattle.std.specs.Option.{option_or}
 use Rattle.std.specs.Ordering.{nat_cmp}
 use Rattle.token_grammar.proofs.NameLemmas.{named_as}
 use Rattle.token_grammar.specs.Characters.{shown}
-use Rattle.token_grammar.specs.References.{Found, behind_number_sign, kept_in_value, named_from, reference}
+use Rattle.token_grammar.specs.References.{Found, after_number_sign, kept_in_value, named_from, reference}
 use Rattle.token_grammar.specs.References.{reference_in_value, value_from, value_of, value_step}
 use Rattle.test_grammar.specs.RowWords.{few, few_names}
 use Rattle.token_grammar.specs.Slices.{begins}
@@ -32,18 +32,18 @@ same_name front (c ∷ cs) =
     ∙ ap (λ o. option_or (name_from (front ++ c ∷ []) cs) (option_map (named_as front (c ∷ cs)) o)) (known front)
 
 abbrev pub reference_by : List ℕ → Option Found
-reference_by cs = cond (begins (35 ∷ []) cs) (behind_number_sign (drop 1 cs)) (name_from [] cs)
+reference_by cs = cond (begins (35 ∷ []) cs) (after_number_sign (drop 1 cs)) (name_from [] cs)
 
 pub same_reference : (cs : List ℕ) → reference few cs ≡ reference_by cs
-same_reference cs = ap (λ o. cond (begins (35 ∷ []) cs) (behind_number_sign (drop 1 cs)) o) (same_name [] cs)
+same_reference cs = ap (λ o. cond (begins (35 ∷ []) cs) (after_number_sign (drop 1 cs)) o) (same_name [] cs)
 
 abbrev value_reference : List ℕ → Option Found
 value_reference cs =
-    cond (begins (35 ∷ []) cs) (behind_number_sign (drop 1 cs)) (option_and_then kept_in_value (name_from [] cs))
+    cond (begins (35 ∷ []) cs) (after_number_sign (drop 1 cs)) (option_and_then kept_in_value (name_from [] cs))
 
 same_value_reference : (cs : List ℕ) → reference_in_value few cs ≡ value_reference cs
 same_value_reference cs =
-    ap (λ o. cond (begins (35 ∷ []) cs) (behind_number_sign (drop 1 cs)) (option_and_then kept_in_value o))
+    ap (λ o. cond (begins (35 ∷ []) cs) (after_number_sign (drop 1 cs)) (option_and_then kept_in_value o))
     (same_name [] cs)
 
 abbrev value_by : ℕ → List ℕ → List ℕ

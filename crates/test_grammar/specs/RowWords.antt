@@ -14,8 +14,8 @@ use Rattle.html_lexemes.specs.declared.token.TagKind.TheVariants.{StartTag, EndT
 use Rattle.html_lexemes.specs.declared.token.TokenSinkResult.{TokenSinkResult}
 use Rattle.html_lexemes.specs.declared.token.TokenSinkResult.TheVariants.{Continue}
 use Rattle.token_grammar.specs.Items.{Item, characters, tag, doctype, error}
-use Rattle.token_grammar.specs.Lexemes.{Lexeme, lexeme, nothing, told, tagged}
-use Rattle.token_grammar.specs.Modes.{mode_behind}
+use Rattle.token_grammar.specs.Lexemes.{Lexeme, lexeme, nothing, emitted, tagged}
+use Rattle.token_grammar.specs.Modes.{next_mode}
 use Rattle.token_grammar.specs.References.{Found}
 use Rattle.token_grammar.specs.declared.modes.Mode.{Mode}
 use Rattle.token_grammar.specs.declared.modes.TextKind.{TextKind}
@@ -27,8 +27,8 @@ going_on = Continue
 
 abbrev pub items_of_lexeme : (Mode → List ℕ → List Item) → Mode → Lexeme → List Item
 items_of_lexeme further mode nothing = []
-items_of_lexeme further mode (told items behind rest) = items ++ further behind rest
-items_of_lexeme further mode (tagged t rest) = tag t ∷ further (mode_behind mode t going_on) rest
+items_of_lexeme further mode (emitted items trailing rest) = items ++ further trailing rest
+items_of_lexeme further mode (tagged t rest) = tag t ∷ further (next_mode mode t going_on) rest
 
 -- at most so many lexemes
 abbrev pub items_from : References → Bool → ℕ → Mode → List ℕ → List Item

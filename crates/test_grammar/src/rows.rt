@@ -1,7 +1,7 @@
 //! What the definitions give on rows worked out from the standard.
 ghost use Rattle.std.specs.Prelude.{◌≡◌, ℕ, [], ◌∷◌, ◌++◌, true, false, codes, map, Some, None};
 ghost use Rattle.lex_base.specs.References.{References};
-ghost use Rattle.html_lexemes.specs.declared.states.RawKind.TheVariants.{Rcdata, Rawtext, ScriptData};
+ghost use Rattle.html_lexemes.specs.declared.states.RawKind.TheVariants.{Rawtext, Rcdata, ScriptData};
 ghost use Rattle.html_lexemes.specs.declared.states.RawKind.TheVariants.{ScriptDataEscaped};
 ghost use Rattle.html_lexemes.specs.declared.states.ScriptEscapeKind.TheVariants.{Escaped, DoubleEscaped};
 ghost use Rattle.html_lexemes.specs.declared.states.AttrValueKind.{AttrValueKind};
@@ -14,8 +14,8 @@ ghost use Rattle.html_lexemes.specs.declared.token.TokenSinkResult.TheVariants.{
 ghost use Rattle.html_lexemes.specs.declared.token.TokenSinkResult.TheVariants.{RawData, Script};
 ghost use Rattle.token_grammar.specs.FirstMode.{first_mode};
 ghost use Rattle.token_grammar.specs.Items.{characters, comment, doctype, error, null_character, tag};
-ghost use Rattle.token_grammar.specs.Lexemes.{kind_behind};
-ghost use Rattle.token_grammar.specs.Modes.{is_pause, last_behind, mode_behind, text_behind, text_of_state};
+ghost use Rattle.token_grammar.specs.Lexemes.{kind_after};
+ghost use Rattle.token_grammar.specs.Modes.{is_pause, last_after, next_mode, text_after, text_of_state};
 ghost use Rattle.token_grammar.specs.References.{numbered, reference, value_of};
 ghost use Rattle.token_grammar.specs.declared.modes.TextKind.TheVariants.{Ordinary, Plain, Raw};
 ghost use Rattle.test_grammar.specs.RowWords.{doctype_with, element_items, end, end_tag, few, found, items_from};
@@ -134,7 +134,7 @@ fn doctypes_of_rows()
     ensures other_word { (table : References) →
         joined (items_from table false 9 ordinary_mode (codes "<!DOCTYPE html x>"))
         ≡ quirky (Some (codes "html")) ∷ [] }
-    ensures behind_system { (table : References) →
+    ensures after_system { (table : References) →
         joined (items_from table false 9 ordinary_mode (codes "<!DOCTYPE a system'b'x"))
         ≡ doctype (record {
           name = Some (codes "a");
@@ -202,15 +202,15 @@ fn values_of_rows()
 
 // WHATWG HTML, 13.2.5.53 to 13.2.5.68
 fn cut_doctypes_of_rows()
-    ensures word_behind_public { (table : References) → page_items table (codes "<!DOCTYPE a PUBLIC 'b' x 'c'>d")
+    ensures word_after_public { (table : References) → page_items table (codes "<!DOCTYPE a PUBLIC 'b' x 'c'>d")
         ≡ doctype_with (codes "a") (Some (codes "b")) None true ∷ characters (codes "d") ∷ [] }
-    ensures end_behind_public { (table : References) → page_items table (codes "<!DOCTYPE a PUBLIC 'b' ")
+    ensures end_after_public { (table : References) → page_items table (codes "<!DOCTYPE a PUBLIC 'b' ")
         ≡ doctype_with (codes "a") (Some (codes "b")) None true ∷ [] }
     ensures public_alone { (table : References) → page_items table (codes "<!DOCTYPE a PUBLIC \"b'c\" >d")
         ≡ doctype_with (codes "a") (Some (codes "b'c")) None false ∷ characters (codes "d") ∷ [] }
-    ensures end_behind_system { (table : References) → page_items table (codes "<!DOCTYPE a SYSTEM 'b' ")
+    ensures end_after_system { (table : References) → page_items table (codes "<!DOCTYPE a SYSTEM 'b' ")
         ≡ doctype_with (codes "a") None (Some (codes "b")) true ∷ [] }
-    ensures word_behind_system { (table : References) → page_items table (codes "<!DOCTYPE a SYSTEM \"b\" y>d")
+    ensures word_after_system { (table : References) → page_items table (codes "<!DOCTYPE a SYSTEM \"b\" y>d")
         ≡ doctype_with (codes "a") None (Some (codes "b")) false ∷ characters (codes "d") ∷ [] }
     ensures cut_system { (table : References) → page_items table (codes "<!DOCTYPE a SYSTEM 'b>'d")
         ≡ doctype_with (codes "a") None (Some (codes "b")) true ∷ characters (codes "'d") ∷ [] }
@@ -222,7 +222,7 @@ fn cut_doctypes_of_rows()
         ≡ quirky (Some (codes "a")) ∷ quirky (Some (codes "a")) ∷ [] }
     ensures no_space { (table : References) → page_items table (codes "<!doctypeA\tpublic'b''c'>")
         ≡ doctype_with (codes "a") (Some (codes "b")) (Some (codes "c")) false ∷ [] }
-    ensures end_behind_name { (table : References) → page_items table (codes "<!DOCTYPE a ")
+    ensures end_after_name { (table : References) → page_items table (codes "<!DOCTYPE a ")
         ≡ quirky (Some (codes "a")) ∷ [] }
     ensures end_before_name { (table : References) → page_items table (codes "<!DOCTYPE ") ≡ quirky None ∷ [] }
     ensures nul { (table : References) → page_items table (codes "<!DOCTYPE a\0 SYSTEM '\0'>")
@@ -241,7 +241,7 @@ fn slashes_of_rows()
     ensures before_a_space { (table : References) → page_items table (codes "<a/ >") ≡ start (codes "a") [] ∷ [] }
     ensures in_a_value { (table : References) → page_items table (codes "<a b=c/>")
         ≡ start (codes "a") (attribute (codes "b") (codes "c/") ∷ []) ∷ [] }
-    ensures behind_a_quote { (table : References) → page_items table (codes "<a b='c'/>")
+    ensures after_a_quote { (table : References) → page_items table (codes "<a b='c'/>")
         ≡ self_closed (codes "a") (attribute (codes "b") (codes "c") ∷ []) ∷ [] }
     ensures of_an_end_tag { (table : References) → page_items table (codes "</A/>")
         ≡ tag (end_tag (codes "a") [] true) ∷ [] }
@@ -259,32 +259,32 @@ fn slashes_of_rows()
 
 // WHATWG HTML, 13.2.5.18 to 13.2.5.31
 fn parts_of_scripts_of_rows()
-    ensures begins { kind_behind ScriptData (codes "<!--a") ≡ ScriptDataEscaped Escaped }
-    ensures begins_not { map (kind_behind ScriptData) (codes "<!-a" ∷ codes "<script>" ∷ codes "-->" ∷ codes "!--" ∷ [])
+    ensures begins { kind_after ScriptData (codes "<!--a") ≡ ScriptDataEscaped Escaped }
+    ensures begins_not { map (kind_after ScriptData) (codes "<!-a" ∷ codes "<script>" ∷ codes "-->" ∷ codes "!--" ∷ [])
         ≡ ScriptData ∷ ScriptData ∷ ScriptData ∷ ScriptData ∷ [] }
-    ensures ends { kind_behind (ScriptDataEscaped Escaped) (codes "-->a") ≡ ScriptData }
-    ensures ends_not { map (kind_behind (ScriptDataEscaped Escaped)) (codes "--a" ∷ codes "->" ∷ codes "--!>"
+    ensures ends { kind_after (ScriptDataEscaped Escaped) (codes "-->a") ≡ ScriptData }
+    ensures ends_not { map (kind_after (ScriptDataEscaped Escaped)) (codes "--a" ∷ codes "->" ∷ codes "--!>"
         ∷ codes "</script>" ∷ [])
         ≡ ScriptDataEscaped Escaped ∷ ScriptDataEscaped Escaped ∷ ScriptDataEscaped Escaped
         ∷ ScriptDataEscaped Escaped ∷ [] }
-    ensures doubles { map (kind_behind (ScriptDataEscaped Escaped))
+    ensures doubles { map (kind_after (ScriptDataEscaped Escaped))
         (codes "<script\t" ∷ codes "<script\n" ∷ codes "<script\u{c}" ∷ codes "<script " ∷ codes "<script/"
         ∷ codes "<SCRIPT>" ∷ [])
         ≡ ScriptDataEscaped DoubleEscaped ∷ ScriptDataEscaped DoubleEscaped ∷ ScriptDataEscaped DoubleEscaped
         ∷ ScriptDataEscaped DoubleEscaped ∷ ScriptDataEscaped DoubleEscaped ∷ ScriptDataEscaped DoubleEscaped ∷ [] }
-    ensures doubles_not { map (kind_behind (ScriptDataEscaped Escaped)) (codes "<script" ∷ codes "<scripts>"
+    ensures doubles_not { map (kind_after (ScriptDataEscaped Escaped)) (codes "<script" ∷ codes "<scripts>"
         ∷ codes "<scrip>" ∷ [])
         ≡ ScriptDataEscaped Escaped ∷ ScriptDataEscaped Escaped ∷ ScriptDataEscaped Escaped ∷ [] }
-    ensures ends_double { map (kind_behind (ScriptDataEscaped DoubleEscaped))
+    ensures ends_double { map (kind_after (ScriptDataEscaped DoubleEscaped))
         (codes "</script\t" ∷ codes "</script\n" ∷ codes "</script\u{c}" ∷ codes "</script " ∷ codes "</script/"
         ∷ codes "</Script>" ∷ [])
         ≡ ScriptDataEscaped Escaped ∷ ScriptDataEscaped Escaped ∷ ScriptDataEscaped Escaped
         ∷ ScriptDataEscaped Escaped ∷ ScriptDataEscaped Escaped ∷ ScriptDataEscaped Escaped ∷ [] }
-    ensures ends_double_not { map (kind_behind (ScriptDataEscaped DoubleEscaped)) (codes "</script"
+    ensures ends_double_not { map (kind_after (ScriptDataEscaped DoubleEscaped)) (codes "</script"
         ∷ codes "</scripts>" ∷ codes "<script>" ∷ [])
         ≡ ScriptDataEscaped DoubleEscaped ∷ ScriptDataEscaped DoubleEscaped ∷ ScriptDataEscaped DoubleEscaped ∷ [] }
-    ensures ends_both { kind_behind (ScriptDataEscaped DoubleEscaped) (codes "-->a") ≡ ScriptData }
-    ensures of_other_elements { kind_behind Rcdata (codes "<!--a") ∷ kind_behind Rawtext (codes "<!--a") ∷ []
+    ensures ends_both { kind_after (ScriptDataEscaped DoubleEscaped) (codes "-->a") ≡ ScriptData }
+    ensures of_other_elements { kind_after Rcdata (codes "<!--a") ∷ kind_after Rawtext (codes "<!--a") ∷ []
         ≡ Rcdata ∷ Rawtext ∷ [] }
 {}
 
@@ -294,7 +294,7 @@ fn scripts_of_rows()
     ensures doubled { (table : References) →
         element_items table ScriptData (codes "script") (codes "<!--<script>a</script>b")
         ≡ characters (codes "<!--<script>a</script>b") ∷ [] }
-    ensures behind_double { (table : References) →
+    ensures after_double { (table : References) →
         element_items table ScriptData (codes "script") (codes "<!--<script></script></script>a")
         ≡ characters (codes "<!--<script></script>") ∷ end (codes "script") ∷ characters (codes "a") ∷ [] }
     ensures ended_twice { (table : References) →
@@ -306,7 +306,7 @@ fn scripts_of_rows()
     ensures no_double_outside { (table : References) →
         element_items table ScriptData (codes "script") (codes "<script></script>a")
         ≡ characters (codes "<script>") ∷ end (codes "script") ∷ characters (codes "a") ∷ [] }
-    ensures dash_behind_dashes { (table : References) →
+    ensures dash_after_dashes { (table : References) →
         element_items table ScriptData (codes "script") (codes "<!--<script>---></script>a")
         ≡ characters (codes "<!--<script>--->") ∷ end (codes "script") ∷ characters (codes "a") ∷ [] }
 {}
@@ -365,20 +365,20 @@ fn items_of_rows()
 
 // the kind of text after an answer, after a tag and at the start (WHATWG HTML, 13.2.5.1 to 13.2.5.5)
 fn modes_of_rows()
-    ensures behind_answers { map (text_behind {H = ℕ})
+    ensures after_answers { map (text_after {H = ℕ})
         (Continue ∷ Script 1 ∷ Plaintext ∷ EncodingIndicator (codes "utf-8") ∷ [])
         ≡ Ordinary ∷ Ordinary ∷ Plain ∷ Ordinary ∷ [] }
-    ensures behind_raw_data { map (λ kind. text_behind {H = ℕ} (RawData kind))
+    ensures after_raw_data { map (λ kind. text_after {H = ℕ} (RawData kind))
         (Rcdata ∷ Rawtext ∷ ScriptData ∷ ScriptDataEscaped DoubleEscaped ∷ [])
         ≡ Raw Rcdata ∷ Raw Rawtext ∷ Raw ScriptData ∷ Raw (ScriptDataEscaped DoubleEscaped) ∷ [] }
     ensures pauses { map (is_pause {H = ℕ}) (Script 1 ∷ EncodingIndicator [] ∷ []) ≡ true ∷ true ∷ [] }
     ensures no_pauses { map (is_pause {H = ℕ}) (Continue ∷ Plaintext ∷ RawData Rcdata ∷ [])
         ≡ false ∷ false ∷ false ∷ [] }
-    ensures last_start_tag { map (last_behind StartTag (codes "b")) (Some (codes "a") ∷ None ∷ [])
+    ensures last_start_tag { map (last_after StartTag (codes "b")) (Some (codes "a") ∷ None ∷ [])
         ≡ Some (codes "b") ∷ Some (codes "b") ∷ [] }
-    ensures behind_end_tags { map (last_behind EndTag (codes "b")) (Some (codes "a") ∷ None ∷ [])
+    ensures after_end_tags { map (last_after EndTag (codes "b")) (Some (codes "a") ∷ None ∷ [])
         ≡ Some (codes "a") ∷ None ∷ [] }
-    ensures behind_a_tag { mode_behind {H = ℕ} (mode_in Plain (codes "a")) (end_tag (codes "b") [] false)
+    ensures after_a_tag { next_mode {H = ℕ} (mode_in Plain (codes "a")) (end_tag (codes "b") [] false)
         (RawData Rawtext)
         ≡ mode_in (Raw Rawtext) (codes "a") }
     ensures at_no_state { map text_of_state (None ∷ Some states.Data ∷ []) ≡ Ordinary ∷ Ordinary ∷ [] }

@@ -2,7 +2,12 @@
 use crate::checks::{holds, is_answer, passes, plain};
 use crate::devices::page_by;
 use html_lexemes::LocalName;
-use html2text::{Config, Display, Error, ImageRenderMode, Importance, ParseOpts, PlainDecorator, ReferenceTable, RichAnnotation, RichDecorator, Style, StyleDecl, StyleOrigin, StylePlace, StyleRule, TextDecorator, TrivialDecorator, a_page_has_one_answer, a_page_has_one_text, from_read_rich, from_read_with_decorator, parse};
+use html2text::{
+    Config, Display, Error, ImageRenderMode, Importance, ParseOpts, PlainDecorator, ReferenceTable,
+    RichAnnotation, RichDecorator, Style, StyleDecl, StyleOrigin, StylePlace, StyleRule,
+    TextDecorator, TrivialDecorator, a_page_has_one_answer, a_page_has_one_text, from_read_rich,
+    from_read_with_decorator, parse,
+};
 use std::alloc::{AllocError, Global};
 
 /// By what a page is shown.

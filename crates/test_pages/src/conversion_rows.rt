@@ -1,10 +1,10 @@
 //! Pages as render trees.
 use crate::trees::{passes, tree_of};
+use dom_styles::{Display, Importance, Style, StyleDecl, StyleOrigin, StylePlace, StyleRule};
 use html_lexemes::LocalName;
 use html_render_tree::{RenderError, decorating_rules};
 use render_conversion::dom_to_render_tree;
 use std::alloc::{AllocError, Global};
-use dom_styles::{Display, Importance, Style, StyleDecl, StyleOrigin, StylePlace, StyleRule};
 use text_decorators::Colour;
 use text_pieces::WhiteSpace;
 

@@ -4,8 +4,8 @@ use crate::trees::{holds, passes, tree_of};
 use html_lexemes::{Device, ReferenceTable};
 use html_render_dom::RcDom;
 use html_render_tree::{RenderConfig, RenderError};
-use page_reading::{PageFault, PageReader, ReadFault, read_page};
 use html_tree_builder::ParseOpts;
+use page_reading::{PageFault, PageReader, ReadFault, read_page};
 use std::alloc::Global;
 use text_decorators::PlainDecorator;
 

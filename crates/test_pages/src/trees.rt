@@ -1,8 +1,8 @@
 //! What each test of numbered rows asks, and the trees of pages.
 use html_lexemes::ReferenceTable;
 use html_render_dom::RcDom;
-use page_reading::{PageFault, PageReader};
 use html_tree_builder::ParseOpts;
+use page_reading::{PageFault, PageReader};
 use std::alloc::Global;
 use std::process::Abort;
 

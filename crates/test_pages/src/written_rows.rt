@@ -3,10 +3,10 @@
 use crate::articles::{Step, article_of};
 use crate::trees::holds;
 use html_lexemes::Device;
-use tree_serializer::SerializeFault;
 use html2text::{Article, WriteArticle};
 use std::alloc::Global;
 use std::io::Cursor;
+use tree_serializer::SerializeFault;
 
 /// A link with a quote in its target, and texts that look like markup.
 static QUOTED: [Step; 7] = [

@@ -1,10 +1,7 @@
 -- Small pages of the worked rows: what is emitted, item by item, and what stands then.
-use Rattle.std.specs.Prelude.{ℕ, zero, suc, false, true, List, [], ◌∷◌, ◌++◌, Option, None, Some, codes, flat_map}
-use Rattle.std.specs.Prelude.{fold}
-use Rattle.tree_forest.specs.Forest.{Element, Forest, Kind, children_at}
-use Rattle.tree_forest.specs.Forest.{comment, contents_of, doctype, document, element}
-use Rattle.tree_forest.specs.Forest.{element_of}
-use Rattle.tree_forest.specs.Forest.{instruction, kind_at, page_alone, text}
+use Rattle.std.specs.Prelude.{[], ◌∷◌, ◌++◌, List, None, Option, Some, codes, false, flat_map, fold, suc, true, zero, ℕ}
+use Rattle.tree_forest.specs.Forest.{Element, Forest, Kind, children_at, comment, contents_of, doctype, document}
+use Rattle.tree_forest.specs.Forest.{element, element_of, instruction, kind_at, page_alone, text}
 use Rattle.tree_forest.specs.declared.sink.QuirksMode.{QuirksMode}
 use Rattle.tree_forest.specs.declared.sink.QuirksMode.TheVariants.{NoQuirks}
 use Rattle.token_grammar.specs.Items.{Item}
@@ -162,14 +159,14 @@ error = items.error
 abbrev pub finished : Item
 finished = items.end_of_file
 
-abbrev pub behind : List Item → State
-behind emitted = fold step begun emitted
+abbrev pub trailing : List Item → State
+trailing emitted = fold step begun emitted
 
 abbrev pub tree_of : State → List ℕ
 tree_of s = shown 20 s.tree.forest 0
 
 abbrev pub page : List Item → List ℕ
-page emitted = tree_of (behind emitted)
+page emitted = tree_of (trailing emitted)
 
 -- the names of the open elements, the root first, with a space between two
 abbrev pub spoken : List QualName → List ℕ
@@ -218,4 +215,4 @@ abbrev pub attribute_text : Attribute → List ℕ
 attribute_text a = a.name.local ++ codes "=" ++ a.value ++ codes " "
 
 abbrev pub attributes_at : ℕ → List Item → List ℕ
-attributes_at n emitted = flat_map attribute_text (element_of (kind_at n (behind emitted).tree.forest)).attributes
+attributes_at n emitted = flat_map attribute_text (element_of (kind_at n (trailing emitted).tree.forest)).attributes

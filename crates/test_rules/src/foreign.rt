@@ -8,8 +8,8 @@ ghost use Rattle.html_lexemes.specs.declared.token.TokenSinkResult.TheVariants.{
 ghost use Rattle.test_rules.specs.RowWords.{answer, doctype_named, end, finished, foreign_fragment_of};
 ghost use Rattle.test_rules.specs.RowWords.{nameless_doctype, null, remark, start, start_closed, start_with, view};
 ghost use Rattle.test_rules.specs.RowWords.{view_from, whole, whole_from, without_scripts, words};
-ghost use Rattle.tree_predicates.specs.declared.modes.InsertionMode.TheVariants.{AfterBody, InBody, InCell};
-ghost use Rattle.tree_predicates.specs.declared.modes.InsertionMode.TheVariants.{InFrameset, InTable};
+ghost use Rattle.tree_predicates.specs.declared.modes.InsertionMode.TheVariants.{AfterBody, InBody, InCell, InFrameset};
+ghost use Rattle.tree_predicates.specs.declared.modes.InsertionMode.TheVariants.{InTable};
 
 // in `title`, `desc` and `foreignObject` of SVG, in text of MathML and in an `annotation-xml` whose contents are HTML
 // the rules of the mode hold

@@ -1,11 +1,10 @@
 //! Fragments: what stands after marks in a context. Elements are named from the root on.
 ghost use Rattle.std.specs.Prelude.{◌≡◌, [], ◌∷◌, codes};
-ghost use Rattle.test_rules.specs.RowWords.{fragment_of, end, finished, null};
-ghost use Rattle.test_rules.specs.RowWords.{public_doctype, remark, start, start_closed};
-ghost use Rattle.test_rules.specs.RowWords.{system_doctype, view_from, words};
-ghost use Rattle.tree_predicates.specs.declared.modes.InsertionMode.TheVariants.{InBody, Text, InTable, InCaption};
-ghost use Rattle.tree_predicates.specs.declared.modes.InsertionMode.TheVariants.{InColumnGroup, InCell, InTemplate};
-ghost use Rattle.tree_predicates.specs.declared.modes.InsertionMode.TheVariants.{AfterBody, InFrameset};
+ghost use Rattle.test_rules.specs.RowWords.{end, finished, fragment_of, null, public_doctype, remark, start};
+ghost use Rattle.test_rules.specs.RowWords.{start_closed, system_doctype, view_from, words};
+ghost use Rattle.tree_predicates.specs.declared.modes.InsertionMode.TheVariants.{AfterBody, InBody, InCaption, InCell};
+ghost use Rattle.tree_predicates.specs.declared.modes.InsertionMode.TheVariants.{InColumnGroup, InFrameset, InTable};
+ghost use Rattle.tree_predicates.specs.declared.modes.InsertionMode.TheVariants.{InTemplate, Text};
 
 #[tactic(auto, unfolding(tree_names::specs::Groups::tag_group, rules_table::specs::Actions::act))]
 fn contexts()

@@ -106,7 +106,7 @@ fn a_table_in_a_paragraph()
 
 // <!DOCTYPE html><p>a<table></table>
 #[tactic(auto, unfolding(tree_names::specs::Groups::tag_group, rules_table::specs::Actions::act))]
-fn a_table_behind_a_doctype()
+fn a_table_after_a_doctype()
     ensures { page (doctype_named (codes "html") ∷ start (codes "p") ∷ words (codes "a") ∷ start (codes "table")
         ∷ end (codes "table") ∷ [])
         ≡ codes "<!html><html><head></head><body><p>a</p><table></table></body></html>" }
@@ -122,11 +122,11 @@ fn options()
 {}
 
 #[tactic(auto, unfolding(tree_names::specs::Groups::tag_group, rules_table::specs::Actions::act))]
-fn a_line_feed_behind_pre()
+fn a_line_feed_after_pre()
     // <pre> LF a
     ensures left_out { page (start (codes "pre") ∷ words (codes "\na") ∷ [])
         ≡ codes "<html><head></head><body><pre>a</pre></body></html>" }
     // <pre></> LF a
-    ensures behind_an_error { page (start (codes "pre") ∷ error ∷ words (codes "\na") ∷ [])
+    ensures after_an_error { page (start (codes "pre") ∷ error ∷ words (codes "\na") ∷ [])
         ≡ codes "<html><head></head><body><pre>\na</pre></body></html>" }
 {}

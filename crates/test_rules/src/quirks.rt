@@ -103,7 +103,7 @@ fn later_attributes()
     ensures in_head { attributes_at 1 (start (codes "head") ∷ start_with (codes "html") (codes "b") (codes "2") ∷ [])
         ≡ codes "b=2 " }
     // <head></head><html b=2>
-    ensures behind_head { attributes_at 1 (start (codes "head") ∷ end (codes "head")
+    ensures after_head { attributes_at 1 (start (codes "head") ∷ end (codes "head")
         ∷ start_with (codes "html") (codes "b") (codes "2") ∷ [])
         ≡ codes "b=2 " }
     // <p><html b=2>
@@ -118,11 +118,11 @@ fn later_attributes()
         ∷ start_with (codes "html") (codes "b") (codes "2") ∷ [])
         ≡ codes "b=2 " }
     // <body></body><html b=2>
-    ensures behind_body { attributes_at 1 (start (codes "body") ∷ end (codes "body")
+    ensures after_body { attributes_at 1 (start (codes "body") ∷ end (codes "body")
         ∷ start_with (codes "html") (codes "b") (codes "2") ∷ [])
         ≡ codes "b=2 " }
     // <body></body></html><html b=2>
-    ensures behind_page { attributes_at 1 (start (codes "body") ∷ end (codes "body") ∷ end (codes "html")
+    ensures after_page { attributes_at 1 (start (codes "body") ∷ end (codes "body") ∷ end (codes "html")
         ∷ start_with (codes "html") (codes "b") (codes "2") ∷ [])
         ≡ codes "b=2 " }
     // <frameset><html b=2>
@@ -130,7 +130,7 @@ fn later_attributes()
         ∷ start_with (codes "html") (codes "b") (codes "2") ∷ [])
         ≡ codes "b=2 " }
     // <frameset></frameset></html><html b=2>
-    ensures behind_frameset { attributes_at 1 (start (codes "frameset") ∷ end (codes "frameset") ∷ end (codes "html")
+    ensures after_frameset { attributes_at 1 (start (codes "frameset") ∷ end (codes "frameset") ∷ end (codes "html")
         ∷ start_with (codes "html") (codes "b") (codes "2") ∷ [])
         ≡ codes "b=2 " }
     // <template><html b=2>

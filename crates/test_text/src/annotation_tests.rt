@@ -1,8 +1,8 @@
 use crate::checks::passes;
 use crate::decorator_tests::{ORANGE, rich_notes};
 use std::alloc::{AllocError, Global};
-use text_lines::EqualCopy;
 use text_decorators::{Colour, RichAnnotation};
+use text_lines::EqualCopy;
 
 // annotations of each kind, among them two links, and a link and an image of one name
 fn notes(alloc: Global) -> Result<Vec<RichAnnotation>, AllocError> {

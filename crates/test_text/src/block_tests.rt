@@ -1,9 +1,11 @@
 use crate::checks::{holds, passes};
 use std::alloc::{AllocError, Global};
 use std::fmt::Display;
-use text_block_renderer::{BlockError, TaggedLine, TaggedString, TooNarrow, WhiteSpace, WrappedBlock};
-use text_decorators::{Columns, UnicodeColumns};
 use test_wrapped::wrapped_lines;
+use text_block_renderer::{
+    BlockError, TaggedLine, TaggedString, TooNarrow, WhiteSpace, WrappedBlock,
+};
+use text_decorators::{Columns, UnicodeColumns};
 
 /// Widths, texts, and their lines, worked out by hand: word by word, U+200B and U+00A0 by CSS Text, widths by the
 /// Unicode Character Database. A piece without columns joins the word after it.

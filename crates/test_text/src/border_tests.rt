@@ -1,7 +1,7 @@
 use crate::checks::{holds, passes};
 use std::alloc::{AllocError, Global};
-use text_lines::TaggedLine;
 use text_borders::{BorderHoriz, BorderSegHoriz, RenderLine};
+use text_lines::TaggedLine;
 
 /// What is done to a border.
 pub(crate) enum Step {

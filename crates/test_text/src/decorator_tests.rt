@@ -1,7 +1,9 @@
 use crate::checks::{holds, passes};
 use example_link_counting::{LinkCounter, LinkNote, counted_links, link, two_links};
 use std::alloc::{AllocError, Global};
-use text_decorators::{Colour, PlainDecorator, RichAnnotation, RichDecorator, TextDecorator, TrivialDecorator};
+use text_decorators::{
+    Colour, PlainDecorator, RichAnnotation, RichDecorator, TextDecorator, TrivialDecorator,
+};
 
 pub(crate) const ORANGE: Colour = Colour {
     r: 0xff,
@@ -89,7 +91,7 @@ fn prefixes_of<D: TextDecorator>(alloc: Global, decorator: &D) -> Result<String,
 }
 
 /// The lines after a page with two links, each ended by `|`.
-fn lines_behind<D: TextDecorator>(alloc: Global, decorator: &mut D) -> Result<String, AllocError> {
+fn lines_after<D: TextDecorator>(alloc: Global, decorator: &mut D) -> Result<String, AllocError> {
     let mut urls = Vec::new(alloc);
     urls.push(String::from_str(alloc, "u")?)?;
     urls.push(String::from_str(alloc, "v")?)?;
@@ -120,7 +122,7 @@ fn answers_are<D: TextDecorator + Clone + Drop>(
     let is_so = text.as_str() == marks && given.as_slice() == notes;
     let is_so = is_so && prefixes_of(alloc, &sub)?.as_str() == prefixes;
     let is_so = is_so && sub.pop_colour() == ends_colours && sub.pop_bgcolour() == ends_colours;
-    Ok(is_so && lines_behind(alloc, &mut sub)?.as_str() == "[1]: u|[2]: v|")
+    Ok(is_so && lines_after(alloc, &mut sub)?.as_str() == "[1]: u|[2]: v|")
 }
 
 const PREFIXES: &str = "# |### |> |* |10. |-7. |";

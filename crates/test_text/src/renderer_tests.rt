@@ -1,6 +1,8 @@
 use crate::checks::{holds, passes};
 use std::alloc::{AllocError, Global};
-use text_block_renderer::{BlockError, PlainDecorator, RenderOptions, Renderer, SubRenderer, TextRenderer};
+use text_block_renderer::{
+    BlockError, PlainDecorator, RenderOptions, Renderer, SubRenderer, TextRenderer,
+};
 use text_borders::RenderLine;
 
 fn block(alloc: Global, width: usize, overflow: bool) -> SubRenderer<PlainDecorator> {
@@ -33,7 +35,7 @@ fn failed_part(
 fn are_failed_parts_refused(alloc: Global) -> Result<bool, BlockError> {
     let mut page = block(alloc, 10, false);
     let part = failed_part(&mut page)?;
-    let behind = page.append_subrender(part, "> ", "> ");
+    let trailing = page.append_subrender(part, "> ", "> ");
     let mut table = block(alloc, 10, false);
     let mut cells = Vec::new(alloc);
     cells.push((table.new_sub_renderer(4)?, 1))?;
@@ -43,14 +45,14 @@ fn are_failed_parts_refused(alloc: Global) -> Result<bool, BlockError> {
     let mut cells = Vec::new(alloc);
     cells.push(failed_part(&mut rows)?)?;
     let below = rows.append_vert_row(cells);
-    let are_refused = [behind, beside, below]
+    let are_refused = [trailing, beside, below]
         .iter()
         .all(|answer| matches!(answer, Err(BlockError::Failed)));
     Ok(are_refused && page.new_line().is_err())
 }
 
 #[test]
-fn room_behind_a_prefix(rt: HostRuntime) {
+fn room_after_a_prefix(rt: HostRuntime) {
     let narrow = block(rt.alloc(), 2, false).width_minus(2, 1);
     holds(&rt, narrow.is_err(), "no room");
     for prefix in [2, 1] {

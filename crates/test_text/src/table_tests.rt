@@ -1,9 +1,9 @@
 use crate::border_tests::{Line, Step, line_made, line_of};
 use crate::checks::{holds, passes};
 use std::alloc::{AllocError, Global};
-use text_lines::TaggedLine;
 use text_borders::{BorderHoriz, RenderLine};
 use text_cells::{BlockLines, LaidLine, LineSet, Row, RowLines, lay_across};
+use text_lines::TaggedLine;
 
 /// A cell: its columns, the rows that it takes, and its lines.
 type Cell = (usize, usize, &'static [Line]);

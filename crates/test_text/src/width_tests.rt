@@ -1,6 +1,6 @@
 use crate::checks::passes;
-use table_widths::column_widths;
 use std::alloc::{AllocError, Global};
+use table_widths::column_widths;
 
 /// Columns share what is left after their least widths; where that is less than they ask for, the one that asks for
 /// more, or the leftmost of those that ask for as much, gives up the first column.

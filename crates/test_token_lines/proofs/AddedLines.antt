@@ -1,7 +1,6 @@
 -- What is read of lines that others were added to.
-use Rattle.std.proofs.Common.{◌≡◌, ℕ, ◌<◌, ◌^◌, List, [], ◌∷◌, ◌++◌, OnOk, IsUtf8, Result}
-use Rattle.std.proofs.Common.{true, false, ◌==◌, length, codes, encode_utf8_all}
-use Rattle.std.proofs.Common.{ap, refl, sym, ◌∙◌, append_assoc, arith}
+use Rattle.std.proofs.Common.{◌≡◌, ◌<◌, ◌^◌, [], ◌∷◌, ◌++◌, ◌==◌, ◌∙◌, IsUtf8, List, OnOk, Result, ap, append_assoc}
+use Rattle.std.proofs.Common.{arith, codes, encode_utf8_all, false, length, refl, sym, true, ℕ}
 use Rattle.std.proofs.lemmas.Bool.Decides.{nat_tests}
 use Rattle.std.proofs.lemmas.Fmt.{IsAscii-decimal}
 use Rattle.std.proofs.lemmas.Result.{on_ok_weaker}

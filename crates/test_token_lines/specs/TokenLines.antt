@@ -6,8 +6,8 @@
 --   doctype NAME PUBLIC SYSTEM quirks?         `\N` for what is missing
 --   error LINE MESSAGE
 -- where `-` stands for a word that does not hold.
-use Rattle.std.specs.Prelude.{ℕ, Bool, List, [], ◌∷◌, ◌++◌, flat_map, chars, codes, string_bytes, if◌then◌else◌}
-use Rattle.std.specs.Prelude.{Option, Some, None}
+use Rattle.std.specs.Prelude.{[], ◌∷◌, ◌++◌, if◌then◌else◌, Bool, List, None, Option, Some, chars, codes, flat_map}
+use Rattle.std.specs.Prelude.{string_bytes, ℕ}
 use Rattle.std.specs.Fmt.{decimal}
 use Rattle.html_lexemes.specs.declared.names.Attribute.{Attribute}
 use Rattle.html_lexemes.specs.declared.token.Doctype.{Doctype}
@@ -15,9 +15,8 @@ use Rattle.html_lexemes.specs.declared.token.Tag.{Tag}
 use Rattle.html_lexemes.specs.declared.token.TagKind.{TagKind}
 use Rattle.html_lexemes.specs.declared.token.TagKind.TheVariants.{StartTag, EndTag}
 use Rattle.html_lexemes.specs.declared.token.Token.{Token}
-use Rattle.html_lexemes.specs.declared.token.Token.TheVariants.{DoctypeToken, TagToken, CommentToken}
-use Rattle.html_lexemes.specs.declared.token.Token.TheVariants.{CharacterTokens, NullCharacterToken}
-use Rattle.html_lexemes.specs.declared.token.Token.TheVariants.{EOFToken, ParseError}
+use Rattle.html_lexemes.specs.declared.token.Token.TheVariants.{CharacterTokens, CommentToken, DoctypeToken, EOFToken}
+use Rattle.html_lexemes.specs.declared.token.Token.TheVariants.{NullCharacterToken, ParseError, TagToken}
 use Rattle.test_fields.specs.Escapes.{field_of}
 use Rattle.test_token_lines.specs.declared.token_lines.TokenLines.{TokenLines}
 

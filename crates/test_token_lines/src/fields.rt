@@ -5,8 +5,8 @@ ghost use Rattle.test_token_lines.specs.TokenLines.{attribute_line, comment_line
 ghost use Rattle.test_token_lines.specs.TokenLines.{field_if_given, flag, kind_word, null_line, tag_line, tag_lines};
 
 use html_lexemes::{Attribute, Doctype, Tag, TagKind, Text};
-use test_fields::{NO_TEXT, end_line, push_field, push_line, push_word};
 use std::alloc::AllocError;
+use test_fields::{NO_TEXT, end_line, push_field, push_line, push_word};
 
 fn push_number(lines: &mut String, number: u64) -> Result<(), AllocError>
     ensures { OnOk result (chars (string_bytes lines.new)

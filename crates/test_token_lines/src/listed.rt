@@ -6,9 +6,9 @@ ghost use Rattle.test_token_lines.specs.Heard.{lines_heard, listed_with, parts_h
 ghost use Rattle.test_token_lines.specs.TokenLines.{Part, lines_with};
 
 use crate::token_lines::TokenLines;
-use token_grammar::TokenSink;
 use html_lexemes::{ParseFault, Token, TokenSinkResult};
 use std::alloc::{AllocError, Global};
+use token_grammar::TokenSink;
 
 /// Of what a sink writes lines.
 #[derive(Clone, Copy, PartialEq, Eq)]

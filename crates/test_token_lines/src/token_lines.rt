@@ -1,11 +1,11 @@
 ghost use Rattle.std.specs.Prelude.{◌≡◌, ◌∷◌, [], ◌++◌, List, IfOk, OnOk, chars, string_bytes};
-ghost use Rattle.test_token_lines.specs.TokenLines.{Part, lines_of, lines_of_parts, lines_with, parts_of};
-ghost use Rattle.test_token_lines.specs.TokenLines.{error_line, shows, text_line};
+ghost use Rattle.test_token_lines.specs.TokenLines.{Part, error_line, lines_of, lines_of_parts, lines_with, parts_of};
+ghost use Rattle.test_token_lines.specs.TokenLines.{shows, text_line};
 
 use crate::fields::{push_comment, push_doctype, push_error, push_null, push_tag};
 use html_lexemes::Token;
-use test_fields::push_line;
 use std::alloc::{AllocError, Global};
+use test_fields::push_line;
 
 /// A line for each token and each attribute. Neighbouring texts are one line; the end has none.
 #[derive(Drop)]

@@ -1,10 +1,9 @@
 -- A text after tokens, as items.
-use Rattle.std.proofs.Common.{◌≡◌, ℕ, ◌<◌, List, [], ◌∷◌, ◌++◌, length, map, refl, sym, ap, ◌∙◌}
-use Rattle.std.proofs.Common.{append_assoc, arith}
+use Rattle.std.proofs.Common.{◌≡◌, ◌<◌, [], ◌∷◌, ◌++◌, ◌∙◌, List, ap, append_assoc, arith, length, map, refl, sym, ℕ}
 use Rattle.std.proofs.lemmas.List.{map-append}
 use Rattle.html_lexemes.specs.declared.token.Token.{Token}
-use Rattle.html_lexemes.specs.declared.token.Token.TheVariants.{DoctypeToken, TagToken, CommentToken, CharacterTokens}
-use Rattle.html_lexemes.specs.declared.token.Token.TheVariants.{NullCharacterToken, EOFToken, ParseError}
+use Rattle.html_lexemes.specs.declared.token.Token.TheVariants.{CharacterTokens, CommentToken, DoctypeToken, EOFToken}
+use Rattle.html_lexemes.specs.declared.token.Token.TheVariants.{NullCharacterToken, ParseError, TagToken}
 use Rattle.token_grammar.specs.Items.{Item, characters, item_of}
 use Rattle.test_token_sinks.specs.KeptTokens.{kept, with_text}
 
@@ -21,10 +20,10 @@ at_last (item ∷ next ∷ items) last cs =
     not_last item next (items ++ last ∷ []) cs ∙ ap (λ l. item ∷ l) (at_last (next ∷ items) last cs)
 
 -- a text after tokens of which the last is a text
-pub behind_text : (whole front : List Token) (ds cs joined : List ℕ)
+pub after_text : (whole front : List Token) (ds cs joined : List ℕ)
     → whole ≡ front ++ CharacterTokens ds ∷ [] → joined ≡ ds ++ cs
     → map item_of front ++ characters joined ∷ [] ≡ with_text (map item_of whole) cs
-behind_text whole front ds cs joined e f =
+after_text whole front ds cs joined e f =
     ap (λ l. map item_of front ++ characters l ∷ []) f
     ∙ sym (ap (λ l. with_text (map item_of l) cs) e
     ∙ (ap (λ l. with_text l cs) (map-append item_of front (CharacterTokens ds ∷ []))
@@ -41,10 +40,10 @@ after EOFToken cs h = refl
 after (ParseError message) cs h = refl
 
 -- a text after tokens of which the last is another
-pub behind_other : (whole new front : List Token) (last : Token) (cs : List ℕ)
+pub after_other : (whole new front : List Token) (last : Token) (cs : List ℕ)
     → whole ≡ front ++ last ∷ [] → new ≡ front ++ last ∷ [] → ((ds : List ℕ) → ¬ (last ≡ CharacterTokens ds))
     → map item_of new ++ characters cs ∷ [] ≡ with_text (map item_of whole) cs
-behind_other whole new front last cs e f h =
+after_other whole new front last cs e f h =
     let items : map item_of (front ++ last ∷ []) ≡ map item_of front ++ item_of last ∷ [] =
     map-append item_of front (last ∷ []) in
     ap (λ l. map item_of l ++ characters cs ∷ []) f

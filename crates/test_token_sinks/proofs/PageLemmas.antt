@@ -1,6 +1,6 @@
 -- What calls on the bytes of a text say of a page.
-use Rattle.std.proofs.Common.{◌≡◌, ℕ, Bool, true, false, ◌==◌, ◌&&◌, if◌then◌else◌, cond, List, ◌∷◌, ◌++◌, drop, Result}
-use Rattle.std.proofs.Common.{Ok, Err, is_ok, OnOk, IsUtf8, chars, refl, sym, ap, ◌∙◌}
+use Rattle.std.proofs.Common.{◌≡◌, ◌==◌, ◌&&◌, if◌then◌else◌, ◌∷◌, ◌++◌, ◌∙◌, Bool, Err, IsUtf8, List, Ok, OnOk, Result}
+use Rattle.std.proofs.Common.{ap, chars, cond, drop, false, is_ok, refl, sym, true, ℕ}
 use Rattle.std.specs.Str.{bytes_eq}
 use Rattle.std.proofs.lemmas.Bool.{ne_eqb}
 use Rattle.std.proofs.lemmas.Str.{chars-append}

@@ -22,8 +22,8 @@ pub record Kept : Type 0 where
   pub is_foreign : Bool
 
 -- what is kept after an item
-abbrev pub kept_behind : Kept → Item → Kept
-kept_behind s item = record s { items = kept s.items item }
+abbrev pub kept_after : Kept → Item → Kept
+kept_after s item = record s { items = kept s.items item }
 
 abbrev pub kept_meaning : {H : Type 0} → Meaning Kept H
-kept_meaning = record { step = kept_behind; reply = λ _ _. Continue; foreign = λ s. s.is_foreign }
+kept_meaning = record { step = kept_after; reply = λ _ _. Continue; foreign = λ s. s.is_foreign }

@@ -3,7 +3,7 @@ use Rattle.std.specs.Prelude.{◌≡◌, ℕ, List, [], ◌∷◌, ◌++◌, ref
 use Rattle.std.proofs.Common.{sym, ap, ◌∙◌, append_assoc, append-nil}
 use Rattle.token_grammar.specs.Items.{Item, characters}
 use Rattle.token_grammar.specs.Reading.{IsLawful}
-use Rattle.test_token_sinks.specs.KeptTokens.{Kept, kept, kept_behind, kept_meaning, with_text}
+use Rattle.test_token_sinks.specs.KeptTokens.{Kept, kept, kept_after, kept_meaning, with_text}
 
 -- a first item stays first
 first_stays : (item : Item) (items : List Item) (cs ds : List ℕ)
@@ -32,13 +32,13 @@ kept-joins items (c ∷ cs) (d ∷ ds) = with_text-with_text items (c ∷ cs) (d
 abbrev with_items : Kept → List Item → Kept
 with_items s items = record s { items = items }
 
-kept_behind-joins : (s : Kept) (cs ds : List ℕ)
-    → kept_behind (kept_behind s (characters cs)) (characters ds) ≡ kept_behind s (characters (cs ++ ds))
-kept_behind-joins s cs ds = ap (with_items s) (kept-joins s.items cs ds)
+kept_after-joins : (s : Kept) (cs ds : List ℕ)
+    → kept_after (kept_after s (characters cs)) (characters ds) ≡ kept_after s (characters (cs ++ ds))
+kept_after-joins s cs ds = ap (with_items s) (kept-joins s.items cs ds)
 
 pub kept_meaning-lawful : {H : Type 0} → IsLawful {H = H} kept_meaning (λ _. Unit {0})
 kept_meaning-lawful = record {
-  joins = kept_behind-joins;
+  joins = kept_after-joins;
   skips = λ _. refl;
   answers = λ _ _ _. refl;
   keeps = λ _ _ ready. ready;

@@ -36,16 +36,16 @@ closed [] = []
 closed (name ∷ []) = name ∷ []
 closed (name ∷ other ∷ names) = other ∷ names
 
-abbrev pub behind_tag : TagKind → List ℕ → Page → Page
-behind_tag StartTag name page =
+abbrev pub after_tag : TagKind → List ℕ → Page → Page
+after_tag StartTag name page =
     record page { elements = name ∷ page.elements; skips_line_feed = bytes_eq name (codes "pre") }
-behind_tag EndTag name page = record page { elements = closed page.elements; skips_line_feed = false }
+after_tag EndTag name page = record page { elements = closed page.elements; skips_line_feed = false }
 
 -- An error ends the rule too, as in html5ever: the standard knows no error between two tokens.
-abbrev pub page_behind : Page → Item → Page
-page_behind page (characters cs) = said page cs
-page_behind page (tag t) = behind_tag t.kind t.name page
-page_behind page _ = settled page
+abbrev pub page_after : Page → Item → Page
+page_after page (characters cs) = said page cs
+page_after page (tag t) = after_tag t.kind t.name page
+page_after page _ = settled page
 
 abbrev pub is_named : List ℕ → List (List ℕ) → Bool
 is_named name [] = false
@@ -56,4 +56,4 @@ abbrev pub is_in_svg : Page → Bool
 is_in_svg page = is_named (codes "svg") page.elements
 
 abbrev pub page_meaning : {H : Type 0} → Meaning Page H
-page_meaning = record { step = page_behind; reply = λ _ _. Continue; foreign = is_in_svg }
+page_meaning = record { step = page_after; reply = λ _ _. Continue; foreign = is_in_svg }

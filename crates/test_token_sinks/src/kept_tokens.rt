@@ -2,10 +2,10 @@ ghost use Rattle.std.specs.Prelude.{◌≡◌, [], ◌∷◌, ◌++◌, IfOk, On
 ghost use Rattle.token_grammar.specs.Items.{characters, item_of};
 ghost use Rattle.test_token_sinks.specs.KeptTokens.{kept, with_text};
 
-use token_grammar::TokenSink;
 use html_lexemes::{ParseFault, Text, Token, TokenSinkResult};
 use std::alloc::{AllocError, Global};
 use std::marker::Model;
+use token_grammar::TokenSink;
 
 /// A sink that keeps the tokens that it is given: texts that follow each other are joined into one token, and an
 /// empty text and errors are left out. It refuses only if allocation fails; then nothing is known of it.
@@ -95,13 +95,13 @@ fn keep_text(tokens: &mut Vec<Token>, text: Text) -> Result<(), AllocError>
     if text.as_str().is_empty() {
         return Ok(());
     }
-    let text = behind_last(tokens, text)?;
+    let text = after_last(tokens, text)?;
     tokens.push(Token::CharacterTokens(text))?;
     Ok(())
 }
 
 // a text after the last token, which is taken out where it is a text
-fn behind_last(tokens: &mut Vec<Token>, text: Text) -> Result<Text, AllocError>
+fn after_last(tokens: &mut Vec<Token>, text: Text) -> Result<Text, AllocError>
     ensures { IfOk result (λ joined.
         map item_of tokens.new.items ++ characters joined ∷ [] ≡ with_text (map item_of tokens.old.items) text) }
 {

@@ -5,9 +5,9 @@
 //! # What is proved
 //!
 //! - `KeptTokens`: it has kept the tokens that it was given, in their order, texts that follow each other as one,
-//!   an empty text and errors left out (its step, `kept_behind`); `tokens` lends them; it meets the laws
+//!   an empty text and errors left out (its step, `kept_after`); `tokens` lends them; it meets the laws
 //! - `PreformattedText`: a small model of a tree builder: the names of the open elements, and the text, in which a
-//!   LF right after the start tag of `pre` is left out, but not after an error (its step, `page_behind`); it may
+//!   LF right after the start tag of `pre` is left out, but not after an error (its step, `page_after`); it may
 //!   be called only where an element is open, which each token leaves so, and it meets the laws
 //!
 //! They show that the laws of sinks can be met by one that does something. With `KeptTokens` each row and each of

@@ -1,14 +1,14 @@
-ghost use Rattle.std.specs.Prelude.{◌≡◌, [], ◌∷◌, ◌<◌, false, IfOk, OnOk, chars, codes, drop, length, reverse};
+ghost use Rattle.std.specs.Prelude.{◌≡◌, [], ◌∷◌, ◌<◌, IfOk, OnOk, chars, codes, drop, false, length, reverse};
 ghost use Rattle.std.specs.Prelude.{string_bytes};
 ghost use Rattle.std.specs.Str.{bytes_eq};
 ghost use Rattle.html_lexemes.specs.declared.token.TagKind.TheVariants.{StartTag};
-ghost use Rattle.test_token_sinks.specs.PreformattedText.{behind_tag, closed, said, settled};
+ghost use Rattle.test_token_sinks.specs.PreformattedText.{after_tag, closed, said, settled};
 
-use token_grammar::TokenSink;
-use token_grammar::slices::first_and_rest;
 use html_lexemes::{LocalName, ParseFault, Tag, TagKind, Text, Token, TokenSinkResult};
 use std::alloc::{AllocError, Global};
 use std::marker::Model;
+use token_grammar::TokenSink;
+use token_grammar::slices::first_and_rest;
 
 /// A small model of a tree builder: the names of the open elements, and the text of the page, in which a line feed
 /// right after the start tag of `pre` is left out (WHATWG HTML, 13.2.6.4.7). The current node is foreign where it is
@@ -76,7 +76,7 @@ impl PreformattedText {
 
     // opens or closes an element
     fn open_or_close(&mut self, tag: Tag) -> Result<(), AllocError>
-        ensures { OnOk result (self.new ≡ behind_tag tag.kind tag.name self.old) }
+        ensures { OnOk result (self.new ≡ after_tag tag.kind tag.name self.old) }
     {
         match tag.kind {
             TagKind::StartTag => self.open(tag.name),
@@ -88,7 +88,7 @@ impl PreformattedText {
     }
 
     fn open(&mut self, name: LocalName) -> Result<(), AllocError>
-        ensures { OnOk result (self.new ≡ behind_tag StartTag name self.old) }
+        ensures { OnOk result (self.new ≡ after_tag StartTag name self.old) }
     {
         self.skips_line_feed = is_named(&name, "pre");
         self.elements.push(name)?;

@@ -43,7 +43,7 @@ fn a_reader_ends_or_stays_failed(rt: HostRuntime) {
     holds(&rt, reads(&mut reader, b"c"), "c");
     holds(&rt, reader.read(&mut [0; 4]).is_err(), "the fault");
     // What it was made of would go on.
-    holds(&rt, reader.read(&mut [0; 4]).is_err(), "the call behind it");
+    holds(&rt, reader.read(&mut [0; 4]).is_err(), "the call after it");
     holds(
         &rt,
         reader.into_inner().bytes.is_empty(),
@@ -93,8 +93,8 @@ fn a_writer_that_takes_nothing_has_failed(rt: HostRuntime) {
     holds(&rt, writer.flush().is_ok(), "a flush");
     holds(&rt, takes(&mut writer, b"cd", 1), "cd");
     holds(&rt, writer.write(b"d").is_err(), "d");
-    holds(&rt, writer.write(b"").is_err(), "nothing behind the fault");
-    holds(&rt, writer.flush().is_err(), "a flush behind the fault");
+    holds(&rt, writer.write(b"").is_err(), "nothing after the fault");
+    holds(&rt, writer.flush().is_err(), "a flush after the fault");
 }
 
 #[test]
@@ -106,8 +106,8 @@ fn a_writer_that_is_not_flushed_has_failed(rt: HostRuntime) {
     holds(&rt, takes(&mut writer, b"a", 1), "a");
     holds(&rt, writer.flush().is_err(), "the fault");
     // What it was made of would go on.
-    holds(&rt, writer.flush().is_err(), "a flush behind it");
-    holds(&rt, writer.write(b"a").is_err(), "a write behind it");
+    holds(&rt, writer.flush().is_err(), "a flush after it");
+    holds(&rt, writer.write(b"a").is_err(), "a write after it");
     holds(&rt, writer.into_inner().room == 2, "what it was made of");
 }
 

@@ -2,8 +2,8 @@
 use crate::checks::{holds, passes};
 use html_lexemes::states::{RawKind, ScriptEscapeKind, State};
 use html_lexemes::{ReferenceTable, TableError, TagKind};
-use token_errors::{FoundError, ParseErrors};
 use std::alloc::{AllocError, Global};
+use token_errors::{FoundError, ParseErrors};
 
 /// What a row's text is.
 #[derive(Clone, Copy)]

@@ -9,10 +9,10 @@ ghost use Rattle.token_grammar.specs.Reading.{IsClosed, Reading};
 ghost use Rattle.html_tokenizer.specs.Completes.{IsFit};
 ghost use Rattle.html_tokenizer.specs.Pieces.{joined};
 
-use token_grammar::{TokenSink, TokenizerOpts};
 use html_lexemes::{BufferQueue, ParseFault, ReferenceTable};
 use html_tokenizer::{Tokenizer, TokenizerResult, read_pieces};
 use std::alloc::Global;
+use token_grammar::{TokenSink, TokenizerOpts};
 
 /// The sink after the end of a page that was fed in pieces. Pauses that it asks for are passed over.
 pub(crate) fn fed<S: TokenSink + Drop>(

@@ -1,7 +1,10 @@
 //! Texts, names, tags, tokens and states, compared.
 use crate::checks::{holds, passes};
 use html_lexemes::states::{RawKind, ScriptEscapeKind, State};
-use html_lexemes::{Attribute, Attributes, Doctype, ErrorMessage, KnownName, LocalName, Namespace, ProcessResult, QualName, Tag, TagKind, Text, Token, TokenSinkResult};
+use html_lexemes::{
+    Attribute, Attributes, Doctype, ErrorMessage, KnownName, LocalName, Namespace, ProcessResult,
+    QualName, Tag, TagKind, Text, Token, TokenSinkResult,
+};
 use std::alloc::{AllocError, Global};
 use std::hash::{DefaultHasher, Hash, Hasher};
 
@@ -90,14 +93,14 @@ fn other_namespace(alloc: Global) -> Result<Namespace, AllocError> {
 }
 
 // whether a namespace is after another, and equals its copy
-fn is_namespace_behind(alloc: Global) -> Result<bool, AllocError> {
+fn is_namespace_after(alloc: Global) -> Result<bool, AllocError> {
     let other = other_namespace(alloc)?;
     let copy = other.try_clone()?;
     Ok(copy == other && Namespace::Svg < other)
 }
 
 // whether a name is after another, and equals its copy
-fn is_name_behind(name: &QualName, first: &QualName) -> Result<bool, AllocError> {
+fn is_name_after(name: &QualName, first: &QualName) -> Result<bool, AllocError> {
     let copy = name.try_clone()?;
     Ok(copy == *name && first < name)
 }
@@ -106,7 +109,7 @@ fn are_names_apart(alloc: Global) -> Result<bool, AllocError> {
     let other = other_namespace(alloc)?;
     let name = QualName::new(other, LocalName::from_str(alloc, "a")?);
     let first = attribute(alloc, "b", "")?;
-    is_name_behind(&name, &first.name)
+    is_name_after(&name, &first.name)
 }
 
 // these attributes, with the values
@@ -231,7 +234,7 @@ fn values_are_compared_copied_and_given_back(rt: HostRuntime) {
     passes(&rt, is_known(alloc, "colgrouq", None), "no known name");
     passes(&rt, is_known(alloc, "", None), "no name");
     passes(&rt, are_attributes_apart(alloc), "two attributes");
-    passes(&rt, is_namespace_behind(alloc), "namespaces");
+    passes(&rt, is_namespace_after(alloc), "namespaces");
     passes(&rt, are_names_apart(alloc), "names");
     passes(&rt, are_a_list(alloc), "a list of attributes");
     passes(&rt, are_shared(alloc), "shared attributes");
@@ -242,7 +245,7 @@ fn values_are_compared_copied_and_given_back(rt: HostRuntime) {
 }
 
 #[test]
-fn answers_are_told_apart(rt: HostRuntime) {
+fn answers_are_emitted_apart(rt: HostRuntime) {
     let script: TokenSinkResult<u8> = TokenSinkResult::Script(3);
     holds(
         &rt,

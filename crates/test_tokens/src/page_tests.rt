@@ -2,12 +2,12 @@
 use crate::checks::passes;
 use crate::feeding::{fed, fed_plainly, first_answer, later_faults};
 use crate::sinks::{ENCODING, SCRIPT_HANDLE, Switching};
-use token_grammar::{TokenizerOpts, read_plainly};
 use html_lexemes::{BufferQueue, ParseFault, ReferenceTable};
 use html_tokenizer::{Tokenizer, TokenizerResult};
-use test_fields::{characters, halves};
 use std::alloc::Global;
+use test_fields::{characters, halves};
 use test_token_sinks::PreformattedText;
+use token_grammar::{TokenizerOpts, read_plainly};
 
 // how a page is read of which nothing is dropped
 fn options() -> TokenizerOpts {
@@ -150,7 +150,7 @@ fn is_begun(alloc: Global, row: &Beginning) -> Result<bool, ParseFault> {
 }
 
 #[test]
-fn a_tokenizer_pauses_and_tells_its_state(rt: HostRuntime) {
+fn a_tokenizer_pauses_and_emits_its_state(rt: HostRuntime) {
     for row in &BEGINNINGS {
         passes(&rt, is_begun(rt.alloc(), row), row.0);
     }

@@ -3,11 +3,11 @@ ghost use Rattle.std.specs.Prelude.{◌≡◌, IfOk, false, refl};
 ghost use Rattle.html_lexemes.specs.declared.token.TokenSinkResult.TheVariants.{Continue};
 ghost use Rattle.test_tokens.specs.TestReply.{Names, asked, asked_by, asked-answers};
 
-use token_grammar::TokenSink;
 use html_lexemes::states::RawKind;
 use html_lexemes::{LocalName, ParseFault, Tag, TagKind, Text, Token, TokenSinkResult};
 use std::alloc::{AllocError, Global};
 use test_token_lines::{Listed, Listing};
+use token_grammar::TokenSink;
 
 /// The handle of each script element.
 pub(crate) const SCRIPT_HANDLE: u32 = 7;

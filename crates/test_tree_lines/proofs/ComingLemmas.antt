@@ -1,6 +1,6 @@
 -- Siblings that are put before others, and taken.
-use Rattle.std.proofs.Common.{◌≡◌, ℕ, ◌+◌, ◌<◌, List, [], ◌∷◌, ◌++◌, length, sym, ap, ap₂, ◌∙◌, arith}
-use Rattle.std.proofs.Common.{append_assoc, append-nil, replicate}
+use Rattle.std.proofs.Common.{◌≡◌, ◌+◌, ◌<◌, [], ◌∷◌, ◌++◌, ◌∙◌, List, ap, append-nil, append_assoc, ap₂, arith, length}
+use Rattle.std.proofs.Common.{replicate, sym, ℕ}
 use Rattle.std.proofs.lemmas.List.{length-append}
 use Rattle.tree_forest.specs.Forest.{Forest, Kind, children_at, comment, contents_of, doctype, document, element}
 use Rattle.tree_forest.specs.Forest.{instruction, kind_at, nodes, text}
@@ -25,8 +25,8 @@ row_pushed f cs new level left others n first pushed =
     ap (lines_to_come f) pushed ∙ to_come-push f cs (record { node = n; others = others; level = level })
     ∙ ap (λ ns. row_lines f level ns ++ lines_to_come f cs) (sym first)
 
-some_behind : (xs ys : List ℕ) → 0 < length ys → 0 < length (xs ++ ys)
-some_behind xs ys h = omega (arith, length-append xs ys, h)
+some_after : (xs ys : List ℕ) → 0 < length ys → 0 < length (xs ++ ys)
+some_after xs ys h = omega (arith, length-append xs ys, h)
 
 -- each node has a line
 kind_some : (level : ℕ) (kind : Kind) → 0 < length (kind_lines level kind)
@@ -38,7 +38,7 @@ kind_some level (instruction target cs) = omega arith
 kind_some level (element e) = omega arith
 
 node_some : (level : ℕ) (kind : Kind) → 0 < length (node_lines level kind)
-node_some level kind = some_behind (replicate level 32) (kind_lines level kind) (kind_some level kind)
+node_some level kind = some_after (replicate level 32) (kind_lines level kind) (kind_some level kind)
 
 abbrev pub Law : Forest → Type 0
 Law f = (level n : ℕ) → lines_within (nodes f) f level n

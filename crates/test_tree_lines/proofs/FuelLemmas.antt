@@ -1,6 +1,6 @@
 -- The lines of a node go one step on, since a forest is no deeper than it has nodes.
-use Rattle.std.proofs.Common.{◌≡◌, ℕ, suc, ◌+◌, ◌≤◌, List, [], ◌∷◌, ◌++◌, Option, None, Some, refl, sym, ap, ap₂, ◌∙◌}
-use Rattle.std.proofs.Common.{inl, inr}
+use Rattle.std.proofs.Common.{◌≡◌, ◌+◌, ◌≤◌, [], ◌∷◌, ◌++◌, ◌∙◌, List, None, Option, Some, ap, ap₂, inl, inr, refl, suc}
+use Rattle.std.proofs.Common.{sym, ℕ}
 use Rattle.tree_forest.specs.Forest.{Forest, children_at, contents_of, element_of, kind_at, nodes}
 use Rattle.tree_forest.specs.Orders.{Above, IsForest, IsIn, IsParent, child, further, of_child, of_contents}
 use Rattle.tree_forest.proofs.Depth.{GoesDown, childless_nowhere, enough, kind_nowhere}

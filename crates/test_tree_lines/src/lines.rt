@@ -1,6 +1,5 @@
 //! The lines of single nodes, each as what it adds to others. The error is allocation failure.
-ghost use Rattle.std.specs.Prelude.{◌≡◌, [], ◌+◌, ◌++◌, IfOk, OnOk, chars, codes, option_map, replicate};
-ghost use Rattle.std.specs.Prelude.{string_bytes};
+ghost use Rattle.std.specs.Prelude.{◌≡◌, [], ◌+◌, ◌++◌, IfOk, OnOk, chars, codes, option_map, replicate, string_bytes};
 ghost use Rattle.tree_forest.specs.Forest.{kind_at};
 ghost use Rattle.html_render_dom.specs.Nodes.{kind_of};
 ghost use Rattle.html_render_dom.specs.Numbers.{number_of};
@@ -9,8 +8,8 @@ ghost use Rattle.test_tree_lines.specs.TreeLines.{kind_lines, line, namespace_wo
 
 use html_lexemes::{Attribute, Attributes, Namespace, QualName, Text};
 use html_render_dom::{Handle, NodeData, RcDom};
-use test_fields::{end_line, push_field, push_line, push_word};
 use std::alloc::AllocError;
+use test_fields::{end_line, push_field, push_line, push_word};
 
 pub(crate) fn one_deeper(level: usize) -> Result<usize, AllocError>
     ensures { IfOk result (λ below. below ≡ level + 1) }

@@ -3,9 +3,9 @@ ghost use Rattle.test_tree_lines.specs.TreeLines.{lines_below, lines_of, mode_wo
 
 use crate::coming::{Coming, push_first, push_row};
 use html_render_dom::RcDom;
-use tree_forest::QuirksMode;
-use test_fields::push_line;
 use std::alloc::{AllocError, Global};
+use test_fields::push_line;
+use tree_forest::QuirksMode;
 
 /// A line for the quirks mode, and the lines below the document. The error is allocation failure.
 pub fn lines_of(alloc: Global, dom: &RcDom) -> Result<String, AllocError>

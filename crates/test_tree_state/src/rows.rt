@@ -37,7 +37,7 @@ fn four_nodes_between()
 {}
 
 // <b><table></b>
-fn formatting_behind_a_table()
+fn formatting_after_a_table()
     ensures { page (format (codes "b") ∷ start (codes "table") ∷ end (codes "b") ∷ [])
         ≡ codes "<body><b><table></table></b></body>" }
 {}

@@ -1,14 +1,14 @@
 -- The conditions of the changes of a forest, computed on one that is written down.
-use Rattle.std.proofs.Common.{◌≡◌, ℕ, zero, suc, ◌<◌, ◌⊎◌, inl, inr, refl, ap, ◌∙◌, Bool, true, false, ◌==◌}
-use Rattle.std.proofs.Common.{List, Option, None, Some, arith, eq-eqb, if◌then◌else◌, ltb, ltb-true}
+use Rattle.std.proofs.Common.{◌≡◌, ◌<◌, ◌⊎◌, ◌∙◌, ◌==◌, if◌then◌else◌, Bool, List, None, Option, Some, ap, arith}
+use Rattle.std.proofs.Common.{eq-eqb, false, inl, inr, ltb, ltb-true, refl, suc, true, zero, ℕ}
 use Rattle.std.proofs.lemmas.Bool.{cases_eq}
 use Rattle.std.specs.Prelude.{codes}
 use Rattle.std.specs.Str.{chars}
 use Rattle.tree_forest.specs.Conditions.{CanMove, CanPut, CanReparent}
 use Rattle.tree_forest.specs.Forest.{Forest, Kind, children_at, comment, contents_of, doctype, document, element}
 use Rattle.tree_forest.specs.Forest.{instruction, is_in, kind_at, nodes, text}
-use Rattle.tree_forest.specs.Orders.{Above, AtOrAbove, HasNoParent, IsIn, IsParent, child, further}
-use Rattle.tree_forest.specs.Orders.{of_child, of_contents}
+use Rattle.tree_forest.specs.Orders.{Above, AtOrAbove, HasNoParent, IsIn, IsParent, child, further, of_child}
+use Rattle.tree_forest.specs.Orders.{of_contents}
 use Rattle.tree_forest.specs.Places.{before, below, node, words}
 use Rattle.tree_forest.proofs.LawLists.{decide_in, is_in_false, is_in_true}
 use Rattle.tree_forest.proofs.Nodes.{holds_parent}

@@ -6,8 +6,11 @@ ghost use Rattle.tree_forest.specs.Orders.{IsForest};
 ghost use Rattle.tree_forest.specs.Places.{before};
 
 use html_lexemes::{ParseFault, Text};
-use tree_forest::{NodeOrText, TreeSink, a_page_alone_is_a_forest, making_keeps_a_forest, putting_keeps_a_forest, what_was_made_may_be_put, where_children_stand};
 use std::alloc::Global;
+use tree_forest::{
+    NodeOrText, TreeSink, a_page_alone_is_a_forest, making_keeps_a_forest, putting_keeps_a_forest,
+    what_was_made_may_be_put, where_children_stand,
+};
 
 /// A comment below the document, and others right before it: one, so many without words, and another.
 pub(crate) fn crowd<S: TreeSink>(alloc: Global, sink: &mut S, count: u32) -> Result<(), ParseFault>
@@ -16,7 +19,7 @@ pub(crate) fn crowd<S: TreeSink>(alloc: Global, sink: &mut S, count: u32) -> Res
     let last = begin(alloc, sink)?;
     put_remark(alloc, sink, last, "first")?;
     put_remarks(alloc, sink, last, count)?;
-    put_remark(alloc, sink, last, "behind")
+    put_remark(alloc, sink, last, "after")
 }
 
 fn begin<S: TreeSink>(alloc: Global, sink: &mut S) -> Result<S::Handle, ParseFault>

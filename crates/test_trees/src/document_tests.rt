@@ -198,6 +198,6 @@ fn are_nodes(alloc: Global) -> Result<bool, ParseFault> {
 }
 
 #[test]
-fn nodes_tell_what_they_are(rt: HostRuntime) {
+fn nodes_emit_what_they_are(rt: HostRuntime) {
     passes(&rt, are_nodes(rt.alloc()), 0);
 }

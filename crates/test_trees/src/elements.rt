@@ -5,8 +5,8 @@ ghost use Rattle.test_trees.specs.Pages.{one_element, point_page, template_page,
 
 use crate::words::PLAIN;
 use html_lexemes::{Attributes, ErrorMessage, ParseFault, QualName};
-use tree_forest::{ElementFlags, NodeOrText, QuirksMode, TreeSink};
 use std::alloc::Global;
+use tree_forest::{ElementFlags, NodeOrText, QuirksMode, TreeSink};
 
 /// An element below the document, to which attributes are added twice.
 pub(crate) fn add_twice<S: TreeSink>(
@@ -54,7 +54,7 @@ pub(crate) fn fill_template<S: TreeSink>(
 }
 
 /// An element below the document, and all that changes no tree.
-pub(crate) fn tell_all<S: TreeSink>(
+pub(crate) fn emit_all<S: TreeSink>(
     alloc: Global,
     sink: &mut S,
     name: QualName,

@@ -4,12 +4,12 @@ ghost use Rattle.html_tree_state.specs.Sound.{Sound};
 
 use crate::step::set_of;
 use crate::words::html_name;
-use tree_forest::TreeSink;
 use html_lexemes::ParseFault;
 use html_render_dom::RcDom;
 use html_tree_state::{Construction, Scope, html_elem};
 use std::alloc::Global;
 use test_tree_lines::lines_of;
+use tree_forest::TreeSink;
 use tree_predicates::InsertionMode;
 
 /// What should hold. A node is named by the path that leads to it from the document.
@@ -87,9 +87,9 @@ fn is_asked<S: TreeSink>(
         Fact::RootMode(None, has_head, expected) => {
             tree.reset_insertion_mode(None, has_head, None) == expected
         }
-        Fact::Listed(behind, count) => {
+        Fact::Listed(trailing, count) => {
             let list = tree.held.formatting();
-            list.iter_to_marker().count() == behind && list.as_slice().len() == count
+            list.iter_to_marker().count() == trailing && list.as_slice().len() == count
         }
         _ => false,
     })

@@ -1,12 +1,12 @@
 //! The list of active formatting elements by itself (WHATWG HTML, 13.2.4.3, and 13.2.6.4.7 for its changes).
 use crate::step::start_tag;
 use crate::words::{PLAIN, html_name};
-use tree_formatting::{FormatEntry, FormattingList};
-use tree_forest::TreeSink;
 use html_lexemes::{Attributes, LocalName, ParseFault};
 use std::alloc::Global;
+use tree_forest::TreeSink;
+use tree_formatting::{FormatEntry, FormattingList};
 
-/// Whether a list emits what it holds once three elements are in it, and becomes what it should.
+/// Whether a list gives what it holds once three elements are in it, and becomes what it should.
 pub(crate) fn is_listed<S: TreeSink>(
     alloc: Global,
     sink: &mut S,
@@ -17,11 +17,11 @@ pub(crate) fn is_listed<S: TreeSink>(
     let third = listed(alloc, sink, list, "i")?;
     let other = made(alloc, sink, "u")?;
     let name = LocalName::from_str(alloc, "b")?;
-    let is_reported = tells(sink, list, &name, second, other);
+    let is_reported = emits(sink, list, &name, second, other);
     list.push_marker()?;
-    let is_behind = list.last_named(&name).is_some();
+    let is_after = list.last_named(&name).is_some();
     list.clear_to_marker();
-    Ok(is_reported && !is_behind && is_changed(sink, list, first, second, third, other)?)
+    Ok(is_reported && !is_after && is_changed(sink, list, first, second, third, other)?)
 }
 
 fn made<S: TreeSink>(alloc: Global, sink: &mut S, word: &str) -> Result<S::Handle, ParseFault> {
@@ -40,7 +40,7 @@ fn listed<S: TreeSink>(
 }
 
 // whether an element is listed with a tag of this name, the last of that name, and another is not
-fn tells<S: TreeSink>(
+fn emits<S: TreeSink>(
     sink: &S,
     list: &FormattingList<S::Handle>,
     name: &LocalName,
@@ -71,7 +71,7 @@ fn is_changed<S: TreeSink>(
     third: S::Handle,
     other: S::Handle,
 ) -> Result<bool, ParseFault> {
-    list.move_behind(sink, first, other, second)?;
+    list.move_after(sink, first, other, second)?;
     let is_moved = holds_three(sink, list, (second, "b"), (other, "a"), Some((third, "i")));
     list.hand_over(sink, second, first);
     let is_handed = holds_three(sink, list, (first, "b"), (other, "a"), Some((third, "i")));

@@ -5,8 +5,8 @@ ghost use Rattle.test_trees.specs.Pages.{fostered, given_page, moved, refilled_p
 
 use crate::words::PLAIN;
 use html_lexemes::{Attributes, ParseFault, QualName};
-use tree_forest::{NodeOrText, TreeSink};
 use std::alloc::Global;
+use tree_forest::{NodeOrText, TreeSink};
 
 /// Three elements below the document. The first is moved before its own next sibling, and the second to the end.
 pub(crate) fn move_siblings<S: TreeSink>(

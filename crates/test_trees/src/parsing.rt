@@ -4,11 +4,14 @@ ghost use Rattle.tree_forest.specs.Forest.{page_alone};
 ghost use Rattle.tree_forest.specs.Orders.{IsForest};
 
 use crate::words::{PLAIN, html_name};
-use tree_forest::{TreeSink, a_page_alone_is_a_forest, elements_stay, making_keeps_a_forest, what_was_made_may_be_put};
 use html_lexemes::{Attributes, ParseFault, QualName, ReferenceTable};
 use html_render_dom::RcDom;
 use html_tree_builder::{ParseOpts, parse_document, parse_fragment_for_element};
 use std::alloc::Global;
+use tree_forest::{
+    TreeSink, a_page_alone_is_a_forest, elements_stay, making_keeps_a_forest,
+    what_was_made_may_be_put,
+};
 
 /// The tree of a page, by each call of a parser: a piece, an error from outside, and the last piece or none.
 pub(crate) fn tree_of(alloc: Global, first: &str, last: Option<&str>) -> Result<RcDom, ParseFault> {

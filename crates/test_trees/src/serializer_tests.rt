@@ -2,10 +2,10 @@
 use crate::checks::{holds, passes};
 use crate::words::{attributes, html_name};
 use html_lexemes::Device;
-use tree_serializer::{HtmlSerializer, SerializeFault, SerializeOpts, Serializer};
 use std::alloc::Global;
 use std::io;
 use std::io::{ErrorKind, Write};
+use tree_serializer::{HtmlSerializer, SerializeFault, SerializeOpts, Serializer};
 
 /// Takes at most three bytes a write while the count of writes lasts, and then fails.
 #[derive(Drop)]
@@ -41,7 +41,7 @@ enum Call {
     Instruction(&'static str, &'static str),
 }
 
-fn tell<S: Serializer>(
+fn emit<S: Serializer>(
     alloc: Global,
     serializer: &mut S,
     call: &Call,
@@ -75,7 +75,7 @@ fn written(
     let mut serializer = HtmlSerializer::new(alloc, Device::new(full), opts)?;
     let (mut done, mut refused) = (0usize, 0usize);
     for call in calls {
-        match tell(alloc, &mut serializer, call) {
+        match emit(alloc, &mut serializer, call) {
             Ok(()) => done = done.saturating_add(1),
             Err(found) if found == fault => refused = refused.saturating_add(1),
             Err(_) => {}

@@ -4,17 +4,17 @@ ghost use Rattle.tree_forest.specs.Forest.{page_alone};
 
 use crate::checks::passes;
 use crate::crowds::crowd;
-use crate::elements::{add_twice, ask, fill_template, tell_all};
+use crate::elements::{add_twice, ask, emit_all, fill_template};
 use crate::finished::finished;
 use crate::moves::{foster, give_children, move_siblings, refill, wrap_children};
 use crate::outline::{Declared, build_outline, build_remarks};
 use crate::texts::say_around;
 use crate::words::{attributes, html_name, html_names};
 use html_lexemes::{Attributes, ErrorMessage, LocalName, Namespace, ParseFault, QualName, Text};
-use tree_forest::{QuirksMode, TreeSink};
 use html_render_dom::{Handle, NodeData, RcDom};
 use std::alloc::Global;
 use test_tree_lines::lines_of;
+use tree_forest::{QuirksMode, TreeSink};
 
 /// What is built.
 enum Page {
@@ -205,7 +205,7 @@ fn report_all(alloc: Global, mode: QuirksMode) -> Result<(RcDom, bool), ParseFau
     let mut dom = RcDom::new(alloc)?;
     let name = html_name(alloc, "html")?;
     let message = ErrorMessage::Fixed("e");
-    let is_attached = tell_all(alloc, &mut dom, name, message, mode)?;
+    let is_attached = emit_all(alloc, &mut dom, name, message, mode)?;
     Ok((dom, is_attached))
 }
 
@@ -262,9 +262,9 @@ fn is_crowded(dom: &RcDom, count: usize) -> bool {
     let mut children = dom.children(dom.document());
     let is_first = is_remark(dom, children.next(), "first");
     let is_last = is_remark(dom, children.next_back(), "last");
-    let is_behind = is_remark(dom, children.next_back(), "behind");
+    let is_after = is_remark(dom, children.next_back(), "after");
     let are_many = children.nth(count.saturating_sub(1)).is_some() && children.next().is_none();
-    is_first && is_last && is_behind && are_many
+    is_first && is_last && is_after && are_many
 }
 
 fn is_crowd_put(alloc: Global, count: u32) -> Result<bool, ParseFault> {

@@ -7,12 +7,12 @@ use crate::fact::{Fact, is_so};
 use crate::lists::is_listed;
 use crate::rows::ROWS;
 use crate::step::{Step, begun, take_all};
-use tree_formatting::FormattingList;
-use tree_forest::TreeSink;
 use html_lexemes::ParseFault;
 use html_render_dom::RcDom;
 use html_tree_state::Construction;
 use std::alloc::Global;
+use tree_forest::TreeSink;
+use tree_formatting::FormattingList;
 
 // whether all of these hold after steps
 fn is_built(

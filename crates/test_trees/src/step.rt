@@ -5,11 +5,11 @@ ghost use Rattle.html_tree_state.specs.Building.{seen};
 ghost use Rattle.html_tree_state.specs.Sound.{Sound};
 
 use crate::words::attributes;
-use tree_forest::{QuirksMode, TreeSink, a_page_alone_is_a_forest};
 use html_lexemes::{Attributes, LocalName, Namespace, ParseFault, QualName, Tag, TagKind, Text};
 use html_tree_state::{Construction, ElementSet, Held, PushFlag};
-use tree_names::is_formatting_tag;
 use std::alloc::{AllocError, Global};
+use tree_forest::{QuirksMode, TreeSink, a_page_alone_is_a_forest};
+use tree_names::is_formatting_tag;
 
 /// A step. Open elements are counted from the root, which is 0.
 pub(crate) enum Step {

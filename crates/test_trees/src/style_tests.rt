@@ -1,9 +1,12 @@
 use crate::checks::{holds, passes};
 use crate::parsing::tree_of;
+use dom_styles::{
+    Declared, Display, Importance, Specificity, Style, StyleDecl, StyleOrigin, StylePlace,
+    StyleRule, WithSpec,
+};
 use html_lexemes::{LocalName, ParseFault, Text};
 use html_render_dom::RcDom;
 use std::alloc::{AllocError, Global};
-use dom_styles::{Declared, Display, Importance, Specificity, Style, StyleDecl, StyleOrigin, StylePlace, StyleRule, WithSpec};
 use text_decorators::Colour;
 
 const RED: Colour = Colour { r: 255, g: 0, b: 0 };
@@ -167,7 +170,7 @@ const CLASS: Specificity = Specificity {
 };
 
 // the value after two declarations
-fn behind(first: Specificity, second: Specificity) -> Option<u8> {
+fn trailing(first: Specificity, second: Specificity) -> Option<u8> {
     let mut property = WithSpec::default();
     property.maybe_update(of_author(first, 1));
     property.maybe_update(of_author(second, 2));
@@ -186,8 +189,8 @@ fn of_author(specificity: Specificity, val: u8) -> Declared<u8> {
 // a class goes over any names, a count that is full stays, and specificities are in order
 #[test]
 fn specificities_decide(rt: HostRuntime) {
-    holds(&rt, behind(CLASS, NAMES) == Some(1), 0);
-    holds(&rt, behind(NAMES, CLASS) == Some(2), 1);
+    holds(&rt, trailing(CLASS, NAMES) == Some(1), 0);
+    holds(&rt, trailing(NAMES, CLASS) == Some(2), 1);
     holds(&rt, NAMES + NAMES == NAMES, 2);
     let mut sum = NAMES;
     sum += CLASS;

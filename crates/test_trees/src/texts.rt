@@ -5,8 +5,8 @@ ghost use Rattle.test_trees.specs.Pages.{said_page};
 
 use crate::words::PLAIN;
 use html_lexemes::{Attributes, ParseFault, QualName, Text};
-use tree_forest::{NodeOrText, TreeSink};
 use std::alloc::{AllocError, Global};
+use tree_forest::{NodeOrText, TreeSink};
 
 fn x(alloc: Global) -> Result<Text, AllocError>
     ensures { IfOk result (λ text. text ≡ codes "x") }

@@ -1,7 +1,7 @@
 //! Names, attributes and flags of elements.
-use tree_forest::ElementFlags;
 use html_lexemes::{Attribute, Attributes, LocalName, Namespace, QualName, Text};
 use std::alloc::{AllocError, Global};
+use tree_forest::ElementFlags;
 
 /// No template, and no integration point.
 pub(crate) const PLAIN: ElementFlags = ElementFlags {

@@ -1,6 +1,6 @@
 -- The letters of texts, one after another, and what a block holds of them.
-use Rattle.std.proofs.Common.{◌≡◌, ℕ, ◌+◌, ◌<◌, ◌≤◌, Bool, false, List, [], ◌∷◌, ◌++◌, Some, length, get_or, take, sym}
-use Rattle.std.proofs.Common.{ap, ◌∙◌, refl, append_assoc}
+use Rattle.std.proofs.Common.{◌≡◌, ◌+◌, ◌<◌, ◌≤◌, [], ◌∷◌, ◌++◌, ◌∙◌, Bool, List, Some, ap, append_assoc, false, get_or}
+use Rattle.std.proofs.Common.{length, refl, sym, take, ℕ}
 use Rattle.std.specs.Prelude.{Result, Ok, Err, IfOk, chars, string_bytes}
 use Rattle.std.proofs.lemmas.List.{append-nil, take_more, take_all}
 use Rattle.text_lines.specs.declared.tagged_string.TaggedString.{TaggedString}

@@ -4,7 +4,10 @@ ghost use Rattle.text_normal.specs.Layout.{AreLinesOf, NeverFits};
 ghost use Rattle.test_wrapped.specs.Letters.{letters_of};
 
 use std::alloc::Global;
-use text_block_renderer::{BlockError, WhiteSpace, WrappedBlock, letters_of_texts, lines_keep_the_width, narrow_normal_text, normal_lines_of_a_block, normal_text_is_kept};
+use text_block_renderer::{
+    BlockError, WhiteSpace, WrappedBlock, letters_of_texts, lines_keep_the_width,
+    narrow_normal_text, normal_lines_of_a_block, normal_text_is_kept,
+};
 use text_decorators::{EqualCopy, TaggedLine, TaggedString};
 
 /// The lines of some texts, joined: their fullest layout on lines of at most `width` columns. Refused as

@@ -8,8 +8,8 @@ use Rattle.text_footnotes.specs.Targets.{last_number}
 use Rattle.block_layout_laws.proofs.OptionLemmas.{mapped, chained, given_mapped, given_chained}
 use Rattle.block_trait.specs.Renderers.{Marking, Sub, add_inline, begin_link, finish_link}
 use Rattle.block_laws.specs.RendererLaws.{IsKeptWithin, StaysWithin, HasRoom}
-use Rattle.text_block_renderer.specs.Parts.{Parts, with_part, with_current, with_target, begin_part_link, footnote_mark}
-use Rattle.text_block_renderer.specs.Parts.{numbered, add_part_number, finish_part_link}
+use Rattle.text_block_renderer.specs.Parts.{Parts, add_part_number, begin_part_link, finish_part_link, footnote_mark}
+use Rattle.text_block_renderer.specs.Parts.{numbered, with_current, with_part, with_target}
 use Rattle.text_block_renderer.specs.PartLaws.{AreKeptWithin, PartsStayWithin, HaveRoom}
 
 -- ---- a part that begins and ends

@@ -2,8 +2,8 @@
 ghost use Rattle.std.specs.Prelude.{◌≡◌, ℕ, List, Some, IsSomeAnd};
 ghost use Rattle.block_trait.specs.Renderers.{Marking, Sub};
 ghost use Rattle.block_laws.specs.RendererLaws.{IsKeptWithin, HasRoom};
-ghost use Rattle.text_block_renderer.specs.Parts.{Parts, whole_page, with_part, with_current};
-ghost use Rattle.text_block_renderer.specs.Parts.{begin_part_link, finish_part_link};
+ghost use Rattle.text_block_renderer.specs.Parts.{Parts, begin_part_link, finish_part_link, whole_page, with_current};
+ghost use Rattle.text_block_renderer.specs.Parts.{with_part};
 ghost use Rattle.text_block_renderer.specs.PartLaws.{AreKeptWithin, PartsStayWithin, HaveRoom};
 
 use block_laws::{renderers_keep_the_width, renderers_with_room_never_refuse};

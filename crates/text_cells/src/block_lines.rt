@@ -16,8 +16,8 @@ use crate::wide_texts::WideTexts;
 use std::alloc::{AllocError, Global};
 use std::collections::VecDeque;
 use std::mem;
-use text_lines::{EqualCopy, TaggedLine};
 use text_borders::{BorderHoriz, RenderLine};
+use text_lines::{EqualCopy, TaggedLine};
 use text_pieces::has_text;
 
 /// The lines of a block or of a cell, in order.
@@ -39,8 +39,8 @@ impl<T: EqualCopy + Drop> BlockLines<T> {
     ghost use Rattle.text_cells.specs.Texts.{content_count};
     ghost use Rattle.text_pieces.specs.Sources.{is_filled};
     ghost use Rattle.text_cells.specs.Ends.{last_border};
-    ghost use Rattle.text_cells.specs.Cells.{block_lines_of, block_content, texts_content, parts_lines};
-    ghost use Rattle.text_cells.specs.Cells.{AreBlockLinesJoined};
+    ghost use Rattle.text_cells.specs.Cells.{AreBlockLinesJoined, block_content, block_lines_of, parts_lines};
+    ghost use Rattle.text_cells.specs.Cells.{texts_content};
 
     /// No lines.
     pub fn new(alloc: Global) -> BlockLines<T>

@@ -9,8 +9,8 @@ use crate::block_lines::BlockLines;
 use crate::cell::LineSet;
 use crate::opening::OpenCell;
 use std::alloc::{AllocError, Global};
-use text_lines::{EqualCopy, TaggedLine};
 use text_borders::{BorderHoriz, RenderLine};
+use text_lines::{EqualCopy, TaggedLine};
 
 /// A text of so many spaces. The error is allocation failure alone.
 pub(crate) fn spaces<T: EqualCopy + Drop>(

@@ -11,9 +11,9 @@ use Rattle.text_decorators.specs.contracts.annotation.RichAnnotationPartialEq.Th
 use Rattle.text_decorators.specs.contracts.colour.ColourPartialEq.TheImpl.{eq-value as colours}
 use Rattle.text_decorators.specs.declared.colour.Colour.{Colour as ColourParts}
 use Rattle.text_decorators.specs.declared.annotation.RichAnnotation.{RichAnnotation}
-use Rattle.text_decorators.specs.declared.annotation.RichAnnotation.TheVariants.{Default, Link, Image, Emphasis, Strong}
-use Rattle.text_decorators.specs.declared.annotation.RichAnnotation.TheVariants.{Strikeout, Code, Preformat, Colour}
-use Rattle.text_decorators.specs.declared.annotation.RichAnnotation.TheVariants.{BgColour}
+use Rattle.text_decorators.specs.declared.annotation.RichAnnotation.TheVariants.{BgColour, Code, Colour, Default}
+use Rattle.text_decorators.specs.declared.annotation.RichAnnotation.TheVariants.{Emphasis, Image, Link, Preformat}
+use Rattle.text_decorators.specs.declared.annotation.RichAnnotation.TheVariants.{Strikeout, Strong}
 use lib.Utf8.{encodes}
 
 same_bytes : (xs ys : List ℕ) → IsUtf8 xs → IsUtf8 ys → chars xs ≡ chars ys → xs ≡ ys

@@ -1,6 +1,6 @@
 -- The prefixes of the three decorators are steady.
-use Rattle.std.specs.Prelude.{◌≡◌, ℕ, suc, ◌+◌, ◌/◌, ◌%◌, ◌<◌, ◌≤◌, ◌^◌, max, ℤ, pos, negsuc, ◌≤ℤ◌, ◌⊎◌, FitsSigned}
-use Rattle.std.specs.Prelude.{Option, unwrap_or, List, [], ◌∷◌, ◌++◌, length, codes, refl}
+use Rattle.std.specs.Prelude.{◌≡◌, ◌+◌, ◌/◌, ◌%◌, ◌<◌, ◌≤◌, ◌^◌, ◌≤ℤ◌, ◌⊎◌, [], ◌∷◌, ◌++◌, FitsSigned, List, Option}
+use Rattle.std.specs.Prelude.{codes, length, max, negsuc, pos, refl, suc, unwrap_or, ℕ, ℤ}
 use Rattle.std.specs.Fmt.{decimal, signed_decimal}
 use Rattle.std.specs.Int.{w64}
 use Rattle.std.proofs.Common.{arith, ap, ◌∙◌, inl, inr, length-append}

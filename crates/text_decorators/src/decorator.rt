@@ -1,12 +1,12 @@
 //! What marks text: the trait of decorators.
 ghost use Rattle.std.specs.Prelude.{◌≡◌, map, chars, string_bytes, is_some, IfOk, IfSome, OnOk, OnErr};
 ghost use Rattle.text_lines.specs.Tagged.{line_items};
-ghost use Rattle.text_decorators.specs.Marks.{Mark, IsSteady, link_start, link_end, emphasis_start, emphasis_end};
-ghost use Rattle.text_decorators.specs.Marks.{strong_start, strong_end, strikeout_start, strikeout_end, code_start};
-ghost use Rattle.text_decorators.specs.Marks.{code_end, superscript_start, superscript_end, image, preformat_first};
-ghost use Rattle.text_decorators.specs.Marks.{preformat_further, header, quote, unordered_item, ordered_item};
-ghost use Rattle.text_decorators.specs.Marks.{colour_start, colour_end, background_start, background_end, page_end};
-ghost use Rattle.text_decorators.specs.Marks.{seen_lines, DecoratorView};
+ghost use Rattle.text_decorators.specs.Marks.{DecoratorView, IsSteady, Mark, background_end, background_start};
+ghost use Rattle.text_decorators.specs.Marks.{code_end, code_start, colour_end, colour_start, emphasis_end};
+ghost use Rattle.text_decorators.specs.Marks.{emphasis_start, header, image, link_end, link_start, ordered_item};
+ghost use Rattle.text_decorators.specs.Marks.{page_end, preformat_first, preformat_further, quote, seen_lines};
+ghost use Rattle.text_decorators.specs.Marks.{strikeout_end, strikeout_start, strong_end, strong_start};
+ghost use Rattle.text_decorators.specs.Marks.{superscript_end, superscript_start, unordered_item};
 
 use crate::colour::Colour;
 use std::alloc::{AllocError, Global};

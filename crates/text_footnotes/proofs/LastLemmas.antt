@@ -1,7 +1,6 @@
 -- The number of the last target.
-use Rattle.std.proofs.Common.{◌≡◌, ℕ, ◌+◌, ◌-◌, ◌<◌, true, false, cond, List, [], ◌∷◌, ◌++◌, length, take, refl, sym}
-use Rattle.std.proofs.Common.{ap, subst, ◌∙◌, None, Option, Some, String, arith, get_or, slice_get, string_eq}
-use Rattle.std.proofs.Common.{unwrap_or}
+use Rattle.std.proofs.Common.{◌≡◌, ◌+◌, ◌-◌, ◌<◌, [], ◌∷◌, ◌++◌, ◌∙◌, List, None, Option, Some, String, ap, arith, cond}
+use Rattle.std.proofs.Common.{false, get_or, length, refl, slice_get, string_eq, subst, sym, take, true, unwrap_or, ℕ}
 use Rattle.std.proofs.lemmas.List.{map-append, take_more}
 use Rattle.std.proofs.lemmas.Bool.{cond-true, or_left, or_right}
 use Rattle.std.specs.Cmp.Lexicographic.{nat_list_eq_equiv}

@@ -1,14 +1,14 @@
 -- A map keeps the numbers of targets as one more is noted.
-use Rattle.std.proofs.Common.{◌≡◌, ℕ, ◌+◌, Bool, true, false, cond, ◌||◌, List, [], ◌∷◌, ◌++◌, length, refl, sym}
-use Rattle.std.proofs.Common.{BuildHasherDefault, FoldHasher, None, Option, Some, String, ap, is_some, string_bytes}
-use Rattle.std.proofs.Common.{arith, chars, length-append, string_eq, ◌∙◌}
+use Rattle.std.proofs.Common.{◌≡◌, ◌+◌, ◌||◌, [], ◌∷◌, ◌++◌, ◌∙◌, Bool, BuildHasherDefault, FoldHasher, List, None}
+use Rattle.std.proofs.Common.{Option, Some, String, ap, arith, chars, cond, false, is_some, length, length-append, refl}
+use Rattle.std.proofs.Common.{string_bytes, string_eq, sym, true, ℕ}
 use Rattle.std.specs.Cmp.Lexicographic.{nat_list_eq_equiv}
 use Rattle.std.specs.Global.{Global}
 use Rattle.std.specs.HashMap.{HashMap, Updates, get, hash_map_len}
 use Rattle.text_footnotes.specs.Seen.{AreNumbered}
 use Rattle.text_footnotes.specs.Targets.{distinct, has_text, is_same_text, number_among}
 use Rattle.text_footnotes.proofs.TextLemmas.{distinct_again, distinct_new, has_again, has_distinct, has_push, has_same}
-use Rattle.text_footnotes.proofs.TextLemmas.{number_behind, number_found, string_eq-text, text_of}
+use Rattle.text_footnotes.proofs.TextLemmas.{number_after, number_found, string_eq-text, text_of}
 
 abbrev pub Numbers : Type 0
 Numbers = HashMap (String Global) ℕ (BuildHasherDefault FoldHasher)
@@ -47,7 +47,7 @@ looked_up : (targets : List (List ℕ)) (text t : List ℕ) (found : Option ℕ)
 looked_up targets text t found n true true new same has is number =
     cc (has, has_same targets text t same, new)
 looked_up targets text t found n true false new same has is number =
-    ap Some (number ∙ sym (number_behind (distinct targets) text t (has_distinct targets t ∙ has)
+    ap Some (number ∙ sym (number_after (distinct targets) text t (has_distinct targets t ∙ has)
     (nat_list_eq_equiv.symm t text ∙ same)))
 looked_up targets text t found n false true new same has is number =
     is ∙ ap Some (sym (number_found (distinct targets) text t (has_distinct targets t ∙ has)))

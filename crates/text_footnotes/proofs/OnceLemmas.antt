@@ -1,6 +1,6 @@
 -- Each target is taken once as the map's numbers are taken out.
-use Rattle.std.proofs.Common.{◌≡◌, ℕ, Bool, true, false, cond, not, ◌||◌, List, [], ◌∷◌, ◌++◌, fold, refl, sym, ap}
-use Rattle.std.proofs.Common.{◌∙◌, None, Option, String, is_some, string_eq, subst}
+use Rattle.std.proofs.Common.{◌≡◌, ◌||◌, [], ◌∷◌, ◌++◌, ◌∙◌, Bool, List, None, Option, String, ap, cond, false, fold}
+use Rattle.std.proofs.Common.{is_some, not, refl, string_eq, subst, sym, true, ℕ}
 use Rattle.std.proofs.lemmas.Bool.{cond-false, or_right}
 use Rattle.std.proofs.lemmas.List.{map-append}
 use Rattle.std.specs.Cmp.Lexicographic.{nat_list_eq_equiv}

@@ -1,7 +1,6 @@
 -- Printable ASCII that goes on the line at hand as it is.
-use Rattle.std.proofs.Common.{◌≡◌, ℕ, zero, suc, ◌+◌, ◌<◌, ◌≤◌, ◌==◌, ◌||◌, not, nat_le, Bool, true, false}
-use Rattle.std.proofs.Common.{List, [], ◌∷◌, ◌++◌}
-use Rattle.std.proofs.Common.{fold, length, take, drop, chars, IsUtf8, inr, refl, sym, ap, subst, ◌∙◌, arith}
+use Rattle.std.proofs.Common.{◌≡◌, ◌+◌, ◌<◌, ◌≤◌, ◌==◌, ◌||◌, [], ◌∷◌, ◌++◌, ◌∙◌, Bool, IsUtf8, List, ap, arith, chars}
+use Rattle.std.proofs.Common.{drop, false, fold, inr, length, nat_le, not, refl, subst, suc, sym, take, true, zero, ℕ}
 use Rattle.std.specs.Prelude.{All, Option, None, Some, if◌then◌else◌, unwrap_or}
 use Rattle.std.specs.Str.{IsAscii, IsCharBoundary}
 use Rattle.std.proofs.lemmas.Bool.Decides.{nat_tests}
@@ -59,10 +58,10 @@ room_less : {S : Type 0} (width : Option ℕ) (line : List (Item S)) (n m : ℕ)
 room_less None line n m h room = tt
 room_less (Some w) line n m h room = λ some. omega (arith, room (omega arith))
 
-room_behind : {S : Type 0} (width : Option ℕ) (line : List (Item S)) (c : ℕ) (tag : S) (n : ℕ) → IsPrintable c
+room_after : {S : Type 0} (width : Option ℕ) (line : List (Item S)) (c : ℕ) (tag : S) (n : ℕ) → IsPrintable c
     → HasRoomFor width line (suc n) → HasRoomFor width (line ++ character c tag ∷ []) n
-room_behind None line c tag n h room = tt
-room_behind (Some w) line c tag n h room = λ some.
+room_after None line c tag n h room = tt
+room_after (Some w) line c tag n h room = λ some.
     omega (
       arith,
       room (omega arith),
@@ -82,7 +81,7 @@ run_placed width (c ∷ cs) tag cut all room =
     ap (λ k. fold (placed_spaced width) k (tagged cs tag))
     (placed_one width c tag cut h (room_less width cut.line 1 (suc (length cs)) (omega arith) room))
     ∙ (run_placed width cs tag (record cut { line = cut.line ++ character c tag ∷ [] })
-    (All-tail IsPrintable c cs all) (room_behind width cut.line c tag (length cs) h room)
+    (All-tail IsPrintable c cs all) (room_after width cut.line c tag (length cs) h room)
     ∙ ap (λ line. record cut { line = line }) (append_assoc cut.line (character c tag ∷ []) (tagged cs tag)))
 
 run_columns : (cs : List ℕ) → All IsPrintable cs → text_columns cs ≡ length cs
@@ -109,13 +108,13 @@ front_columns text run n cut all e =
     omega arith ∙ ap text_columns (sym (ap chars e ∙ same))
 
 -- what stands in front goes on the line, and what is after it is placed as before
-pub behind_front : {S : Type 0} (width : Option ℕ) (text run rest : List ℕ) (n most : ℕ) (tag : S) (cut : Cut S)
+pub after_front : {S : Type 0} (width : Option ℕ) (text run rest : List ℕ) (n most : ℕ) (tag : S) (cut : Cut S)
     (line : List (Item S)) → IsUtf8 text → IsCharBoundary text n → All IsPrintable (take n text) → n ≤ most
     → HasRoomFor width cut.line most → run ≡ take n text → rest ≡ drop n text
     → line ≡ cut.line ++ tagged (chars run) tag
     → fold (placed_spaced width) (record cut { line = line }) (tagged (chars rest) tag)
     ≡ fold (placed_spaced width) cut (tagged (chars text) tag)
-behind_front width text run rest n most tag cut line utf8 at all few room front back put =
+after_front width text run rest n most tag cut line utf8 at all few room front back put =
     let f = placed_spaced width in
     let spelt : chars run ≡ take n text =
     ap chars front ∙ chars-IsAscii (take n text) (are_ascii (take n text) all) in
@@ -159,7 +158,7 @@ pub whole_placed : {S : Type 0} (width : Option ℕ) (text whole : List ℕ) (n 
     → record cut { line = line } ≡ fold (placed_spaced width) cut (tagged (chars whole) tag)
 whole_placed width text whole n most tag cut line utf8 at all few room is long put =
     ap (λ cs. fold (placed_spaced width) (record cut { line = line }) (tagged cs tag)) (sym chars-nil)
-    ∙ (behind_front width text whole [] n most tag cut line utf8 at all few room
+    ∙ (after_front width text whole [] n most tag cut line utf8 at all few room
     (take_whole n whole long ∙ ap (take n) (sym is))
     (drop_whole n whole long ∙ ap (drop n) (sym is)) put
     ∙ ap (λ bs. fold (placed_spaced width) cut (tagged (chars bs) tag)) is)

@@ -1,6 +1,6 @@
 -- Texts among others, and each text once.
-use Rattle.std.proofs.Common.{◌≡◌, ℕ, ◌+◌, Bool, true, false, cond, not, ◌||◌, List, [], ◌∷◌, ◌++◌, length, fold, refl}
-use Rattle.std.proofs.Common.{Some, String, string_bytes, string_eq, chars, sym, ap, ◌∙◌, arith}
+use Rattle.std.proofs.Common.{◌≡◌, ◌+◌, ◌||◌, [], ◌∷◌, ◌++◌, ◌∙◌, Bool, List, Some, String, ap, arith, chars, cond}
+use Rattle.std.proofs.Common.{false, fold, length, not, refl, string_bytes, string_eq, sym, true, ℕ}
 use Rattle.std.proofs.lemmas.Bool.{cond-true, cond-false}
 use Rattle.std.proofs.lemmas.List.Folds.{list_any-append}
 use Rattle.std.proofs.lemmas.List.Sums.{fold-append}
@@ -98,10 +98,10 @@ position_found p (t ∷ texts) more h = at (p t) h (λ e. position_found p texts
     at true e rest = refl
     at false e rest = ap (λ n. 1 + n) (rest e)
 
-position_behind : (p : List ℕ → Bool) (texts : List (List ℕ)) (text : List ℕ) → list_any p texts ≡ false →
+position_after : (p : List ℕ → Bool) (texts : List (List ℕ)) (text : List ℕ) → list_any p texts ≡ false →
     p text ≡ true → position_or_len p (texts ++ text ∷ []) ≡ length texts
-position_behind p [] text none one = ap (λ b. cond (not b) (1 + 0) 0) one
-position_behind p (t ∷ texts) text none one = at (p t) none (λ e. position_behind p texts text e one)
+position_after p [] text none one = ap (λ b. cond (not b) (1 + 0) 0) one
+position_after p (t ∷ texts) text none one = at (p t) none (λ e. position_after p texts text e one)
   where
     at : (b : Bool) → (b || list_any p texts) ≡ false →
         (list_any p texts ≡ false → position_or_len p (texts ++ text ∷ []) ≡ length texts) →
@@ -114,6 +114,6 @@ pub number_found : (texts : List (List ℕ)) (text t : List ℕ) → has_text te
     number_among (texts ++ text ∷ []) (Some t) ≡ number_among texts (Some t)
 number_found texts text t has = ap (λ n. n + 1) (position_found (is_same_text t) texts (text ∷ []) has)
 
-pub number_behind : (texts : List (List ℕ)) (text t : List ℕ) → has_text texts t ≡ false →
+pub number_after : (texts : List (List ℕ)) (text t : List ℕ) → has_text texts t ≡ false →
     is_same_text t text ≡ true → number_among (texts ++ text ∷ []) (Some t) ≡ length texts + 1
-number_behind texts text t none same = ap (λ n. n + 1) (position_behind (is_same_text t) texts text none same)
+number_after texts text t none same = ap (λ n. n + 1) (position_after (is_same_text t) texts text none same)

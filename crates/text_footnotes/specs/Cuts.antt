@@ -1,6 +1,6 @@
 -- Lines that are cut at a width, where there is one.
-use Rattle.std.specs.Prelude.{ℕ, ◌+◌, ◌<◌, ◌≤◌, ◌==◌, nat_le, Bool, true, false, not, ◌||◌, List, [], ◌∷◌, ◌++◌}
-use Rattle.std.specs.Prelude.{Option, None, Some, map, Vec, All, if◌then◌else◌}
+use Rattle.std.specs.Prelude.{◌+◌, ◌<◌, ◌≤◌, ◌==◌, ◌||◌, [], ◌∷◌, ◌++◌, if◌then◌else◌, All, Bool, List, None, Option}
+use Rattle.std.specs.Prelude.{Some, Vec, false, map, nat_le, not, true, ℕ}
 use Rattle.std.specs.Global.{Global}
 use Rattle.text_lines.specs.Columns.{width_of}
 use Rattle.text_lines.specs.Tagged.{Item, character, marker, line_items, line_columns, IsJoined}

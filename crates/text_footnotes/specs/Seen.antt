@@ -1,6 +1,5 @@
 -- What contracts see of the targets of links.
-use Rattle.std.specs.Prelude.{◌≡◌, ℕ, List, None, Some, String, chars, if◌then◌else◌, length, string_bytes}
-use Rattle.std.specs.Prelude.{string_eq}
+use Rattle.std.specs.Prelude.{◌≡◌, if◌then◌else◌, List, None, Some, String, chars, length, string_bytes, string_eq, ℕ}
 use Rattle.std.specs.Global.{Global}
 use Rattle.std.specs.HashMap.{HashMap, get, hash_map_len}
 use Rattle.text_footnotes.specs.Targets.{distinct, has_text, number_among}

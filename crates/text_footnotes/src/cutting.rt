@@ -1,6 +1,6 @@
 //! Lines that are cut.
-ghost use Rattle.std.specs.Prelude.{◌≡◌, ◌+◌, ◌≤◌, nat_le, fold, map, take, chars, string_bytes, All, OnOk, IfOk};
-ghost use Rattle.std.specs.Prelude.{IsTrue};
+ghost use Rattle.std.specs.Prelude.{◌≡◌, ◌+◌, ◌≤◌, All, IfOk, IsTrue, OnOk, chars, fold, map, nat_le, string_bytes};
+ghost use Rattle.std.specs.Prelude.{take};
 ghost use Rattle.std.specs.Str.{IsCharBoundary};
 ghost use Rattle.text_lines.specs.Tagged.{line_items, character, marker, tagged, IsJoined};
 ghost use Rattle.text_footnotes.specs.Footnotes.{nothing_cut, all_lines};
@@ -19,8 +19,7 @@ pub(crate) struct CutLines<T> {
 }
 
 impl<T: EqualCopy + Drop> CutLines<T> {
-    ghost use Rattle.text_footnotes.specs.Cuts.{cut_of, HasJoinedTexts, with_room, placed_within};
-    ghost use Rattle.text_footnotes.specs.Cuts.{placed_spaced};
+    ghost use Rattle.text_footnotes.specs.Cuts.{HasJoinedTexts, cut_of, placed_spaced, placed_within, with_room};
 
     /// No line is done.
     pub(crate) fn new(alloc: Global) -> CutLines<T>

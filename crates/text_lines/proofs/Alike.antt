@@ -1,6 +1,6 @@
 -- What is found equal is seen alike, and joined elements that are seen alike are found equal.
-use Rattle.std.proofs.Common.{◌≡◌, ◌≢◌, ℕ, Bool, true, false, ◌&&◌, List, [], ◌∷◌, ◌++◌, nat_eq, String, Global, sym}
-use Rattle.std.proofs.Common.{ap, ap₂, ◌∙◌, refl, subst, eq-eqb}
+use Rattle.std.proofs.Common.{◌≡◌, ◌≢◌, ◌&&◌, [], ◌∷◌, ◌++◌, ◌∙◌, Bool, Global, List, String, ap, ap₂, eq-eqb, false}
+use Rattle.std.proofs.Common.{nat_eq, refl, subst, sym, true, ℕ}
 use Rattle.std.specs.Prelude.{chars, string_bytes}
 use Rattle.std.specs.Bool.{Decides}
 use Rattle.std.specs.Str.{IsUtf8, bytes_eq}
@@ -11,8 +11,8 @@ use Rattle.text_lines.specs.declared.tagged_string.TaggedString.{TaggedString}
 use Rattle.text_lines.specs.declared.tagged_string.TaggedLineElement.{TaggedLineElement}
 use Rattle.text_lines.specs.declared.tagged_string.TaggedLineElement.TheVariants.{Str, FragmentStart}
 use Rattle.text_lines.specs.Columns.{text_columns}
-use Rattle.text_lines.specs.Elements.{Item, character, marker, tagged, element_items, elements_items, elements_text}
-use Rattle.text_lines.specs.Elements.{BeginsWithTag, AreJoined}
+use Rattle.text_lines.specs.Elements.{AreJoined, BeginsWithTag, Item, character, element_items, elements_items}
+use Rattle.text_lines.specs.Elements.{elements_text, marker, tagged}
 use Rattle.text_lines.specs.Equality.{AreSameStrings, AreSameElements}
 use Rattle.text_lines.proofs.Emptiness.{chars_nil}
 use Rattle.text_lines.proofs.Joins.{same_columns}
@@ -162,54 +162,54 @@ module _ {T S : Type 0} (eq : T → T → Bool) (seen : T → S) (same : (x y : 
   )
 
   -- an equality of elements that looks at texts and at names
-  pub record TellsAlike (tells : TaggedLineElement T → TaggedLineElement T → Bool) : Type 0 where
-    pub texts : (a b : TaggedString T) → tells (Str a) (Str b) ≡ (bytes_eq (string_bytes a.s) (string_bytes b.s) && eq
+  pub record EmitsAlike (emits : TaggedLineElement T → TaggedLineElement T → Bool) : Type 0 where
+    pub texts : (a b : TaggedString T) → emits (Str a) (Str b) ≡ (bytes_eq (string_bytes a.s) (string_bytes b.s) && eq
         a.tag b.tag)
-    pub text_first : (a : TaggedString T) (b : String Global) → tells (Str a) (FragmentStart b) ≡ false
-    pub name_first : (a : String Global) (b : TaggedString T) → tells (FragmentStart a) (Str b) ≡ false
-    pub names : (a b : String Global) → tells (FragmentStart a) (FragmentStart b) ≡ bytes_eq (string_bytes a)
+    pub text_first : (a : TaggedString T) (b : String Global) → emits (Str a) (FragmentStart b) ≡ false
+    pub name_first : (a : String Global) (b : TaggedString T) → emits (FragmentStart a) (Str b) ≡ false
+    pub names : (a b : String Global) → emits (FragmentStart a) (FragmentStart b) ≡ bytes_eq (string_bytes a)
         (string_bytes b)
 
-  pub elements_alike : (tells : TaggedLineElement T → TaggedLineElement T → Bool) → TellsAlike tells
-      → (e f : TaggedLineElement T) → Decides (tells e f) (AreSameElements seen e f)
-  elements_alike tells is (Str a) (Str b) =
+  pub elements_alike : (emits : TaggedLineElement T → TaggedLineElement T → Bool) → EmitsAlike emits
+      → (e f : TaggedLineElement T) → Decides (emits e f) (AreSameElements seen e f)
+  elements_alike emits is (Str a) (Str b) =
       ((λ e. (strings_alike a b).0 (sym (is.texts a b) ∙ e)), (λ h. is.texts a b ∙ (strings_alike a b).1 h))
-  elements_alike tells is (Str a) (FragmentStart b) = ((λ e. false≢true (sym (is.text_first a b) ∙ e)), (λ h. absurd h))
-  elements_alike tells is (FragmentStart a) (Str b) = ((λ e. false≢true (sym (is.name_first a b) ∙ e)), (λ h. absurd h))
-  elements_alike tells is (FragmentStart a) (FragmentStart b) = (
+  elements_alike emits is (Str a) (FragmentStart b) = ((λ e. false≢true (sym (is.text_first a b) ∙ e)), (λ h. absurd h))
+  elements_alike emits is (FragmentStart a) (Str b) = ((λ e. false≢true (sym (is.name_first a b) ∙ e)), (λ h. absurd h))
+  elements_alike emits is (FragmentStart a) (FragmentStart b) = (
     (λ e. ap chars ((bytes_eq-Decides (string_bytes a) (string_bytes b)).0 (sym (is.names a b) ∙ e))),
     (λ h. is.names a b ∙ (bytes_eq-Decides (string_bytes a) (string_bytes b)).1
         (same_bytes (string_bytes a) (string_bytes b) (IsUtf8-string_bytes a) (IsUtf8-string_bytes b) h)),
   )
 
-  all_alike : (tells : TaggedLineElement T → TaggedLineElement T → Bool) → TellsAlike tells
-      → (es fs : List (TaggedLineElement T)) → pointwise tells es fs ≡ true → AreAllSame seen es fs
-  all_alike tells is [] [] e = tt
-  all_alike tells is [] (y ∷ fs) e = absurd (false≢true e)
-  all_alike tells is (x ∷ es) [] e = absurd (false≢true e)
-  all_alike tells is (x ∷ es) (y ∷ fs) e =
-      let p = and_parts (tells x y) (pointwise tells es fs) e in
-      ((elements_alike tells is x y).0 p.0, all_alike tells is es fs p.1)
+  all_alike : (emits : TaggedLineElement T → TaggedLineElement T → Bool) → EmitsAlike emits
+      → (es fs : List (TaggedLineElement T)) → pointwise emits es fs ≡ true → AreAllSame seen es fs
+  all_alike emits is [] [] e = tt
+  all_alike emits is [] (y ∷ fs) e = absurd (false≢true e)
+  all_alike emits is (x ∷ es) [] e = absurd (false≢true e)
+  all_alike emits is (x ∷ es) (y ∷ fs) e =
+      let p = and_parts (emits x y) (pointwise emits es fs) e in
+      ((elements_alike emits is x y).0 p.0, all_alike emits is es fs p.1)
 
-  all_told : (tells : TaggedLineElement T → TaggedLineElement T → Bool) → TellsAlike tells
-      → (es fs : List (TaggedLineElement T)) → AreAllSame seen es fs → pointwise tells es fs ≡ true
-  all_told tells is [] [] h = refl
-  all_told tells is [] (y ∷ fs) h = absurd h
-  all_told tells is (x ∷ es) [] h = absurd h
-  all_told tells is (x ∷ es) (y ∷ fs) h = both_true (tells x y) (pointwise tells es fs)
-      ((elements_alike tells is x y).1 h.0) (all_told tells is es fs h.1)
+  all_emitted : (emits : TaggedLineElement T → TaggedLineElement T → Bool) → EmitsAlike emits
+      → (es fs : List (TaggedLineElement T)) → AreAllSame seen es fs → pointwise emits es fs ≡ true
+  all_emitted emits is [] [] h = refl
+  all_emitted emits is [] (y ∷ fs) h = absurd h
+  all_emitted emits is (x ∷ es) [] h = absurd h
+  all_emitted emits is (x ∷ es) (y ∷ fs) h = both_true (emits x y) (pointwise emits es fs)
+      ((elements_alike emits is x y).1 h.0) (all_emitted emits is es fs h.1)
 
-  pub told_items : (tells : TaggedLineElement T → TaggedLineElement T → Bool) → TellsAlike tells
-      → (es fs : List (TaggedLineElement T)) (m n : ℕ) → (pointwise tells es fs && nat_eq m n) ≡ true
+  pub emitted_items : (emits : TaggedLineElement T → TaggedLineElement T → Bool) → EmitsAlike emits
+      → (es fs : List (TaggedLineElement T)) (m n : ℕ) → (pointwise emits es fs && nat_eq m n) ≡ true
       → elements_items seen es ≡ elements_items seen fs
-  told_items tells is es fs m n e = all_same_items seen es fs
-      (all_alike tells is es fs (and_parts (pointwise tells es fs) (nat_eq m n) e).0)
+  emitted_items emits is es fs m n e = all_same_items seen es fs
+      (all_alike emits is es fs (and_parts (pointwise emits es fs) (nat_eq m n) e).0)
 
-  pub joined_told : (tells : TaggedLineElement T → TaggedLineElement T → Bool) → TellsAlike tells
+  pub joined_emitted : (emits : TaggedLineElement T → TaggedLineElement T → Bool) → EmitsAlike emits
       → (es fs : List (TaggedLineElement T)) (m n : ℕ) → m ≡ text_columns (elements_text es)
       → n ≡ text_columns (elements_text fs)
       → AreJoined seen es → AreJoined seen fs → elements_items seen es ≡ elements_items seen fs
-      → (pointwise tells es fs && nat_eq m n) ≡ true
-  joined_told tells is es fs m n counted also first second same =
-      both_true (pointwise tells es fs) (nat_eq m n) (all_told tells is es fs (all_same seen es fs first second same))
+      → (pointwise emits es fs && nat_eq m n) ≡ true
+  joined_emitted emits is es fs m n counted also first second same =
+      both_true (pointwise emits es fs) (nat_eq m n) (all_emitted emits is es fs (all_same seen es fs first second same))
       (eq-eqb m n (same_columns seen es fs m (sym same) counted ∙ sym also))

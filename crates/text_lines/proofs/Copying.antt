@@ -1,6 +1,6 @@
 -- A loop that copies a list, one more at a time.
-use Rattle.std.proofs.Common.{◌≡◌, ℕ, ◌+◌, ◌<◌, List, [], ◌∷◌, ◌++◌, map, take, length, get_or, sym, ap, ◌∙◌, refl}
-use Rattle.std.proofs.Common.{arith}
+use Rattle.std.proofs.Common.{◌≡◌, ◌+◌, ◌<◌, [], ◌∷◌, ◌++◌, ◌∙◌, List, ap, arith, get_or, length, map, refl, sym, take}
+use Rattle.std.proofs.Common.{ℕ}
 use Rattle.std.proofs.lemmas.List.{map_more, map_push}
 
 pub seen_more : {T S : Type 0} (seen : T → S) (xs copies new : List T) (i : ℕ) (x copied : T) → i < length xs

@@ -1,13 +1,13 @@
 -- Lists of elements that are made one by one from others.
-use Rattle.std.proofs.Common.{◌≡◌, ℕ, ◌+◌, ◌<◌, ◌≤◌, List, [], ◌∷◌, ◌++◌, take, length, get_or, sym, ap, ◌∙◌, refl}
-use Rattle.std.proofs.Common.{subst}
+use Rattle.std.proofs.Common.{◌≡◌, ◌+◌, ◌<◌, ◌≤◌, [], ◌∷◌, ◌++◌, ◌∙◌, List, ap, get_or, length, refl, subst, sym, take}
+use Rattle.std.proofs.Common.{ℕ}
 use Rattle.std.specs.Prelude.{chars, string_bytes}
 use Rattle.std.proofs.lemmas.List.{take_more, take_all}
 use Rattle.text_lines.specs.declared.tagged_string.TaggedLineElement.{TaggedLineElement}
 use Rattle.text_lines.specs.declared.tagged_string.TaggedLineElement.TheVariants.{Str, FragmentStart}
 use Rattle.text_lines.specs.Columns.{text_columns}
-use Rattle.text_lines.specs.Elements.{element_text, elements_text, element_items, elements_items, marker, tagged}
-use Rattle.text_lines.specs.Elements.{MapsTag, MapsTags, Copies, CopiesAll}
+use Rattle.text_lines.specs.Elements.{Copies, CopiesAll, MapsTag, MapsTags, element_items, element_text, elements_items}
+use Rattle.text_lines.specs.Elements.{elements_text, marker, tagged}
 
 -- ---- other tags
 

@@ -1,6 +1,6 @@
 -- When elements have no item.
-use Rattle.std.proofs.Common.{◌≡◌, ℕ, zero, suc, ◌<◌, Bool, true, false, IsTrue, List, [], ◌∷◌, ◌++◌, map, length, sym}
-use Rattle.std.proofs.Common.{ap, ◌∙◌, refl, arith}
+use Rattle.std.proofs.Common.{◌≡◌, ◌<◌, [], ◌∷◌, ◌++◌, ◌∙◌, Bool, IsTrue, List, ap, arith, false, length, map, refl}
+use Rattle.std.proofs.Common.{suc, sym, true, zero, ℕ}
 use Rattle.std.specs.Prelude.{chars, string_bytes, MatchBool}
 use Rattle.std.specs.List.{AllWithin, HoldsAt}
 use Rattle.std.specs.Str.{IsUtf8}

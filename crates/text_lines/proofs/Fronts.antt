@@ -8,8 +8,8 @@ use Rattle.std.proofs.lemmas.List.Sums.{sum_by-append}
 use Rattle.text_lines.specs.declared.tagged_string.TaggedLineElement.{TaggedLineElement}
 use Rattle.text_lines.specs.declared.tagged_string.TaggedLineElement.TheVariants.{Str, FragmentStart}
 use Rattle.text_lines.specs.Columns.{text_columns, width_of}
-use Rattle.text_lines.specs.Elements.{Item, character, tagged, characters, element_items, elements_items}
-use Rattle.text_lines.specs.Elements.{elements_text, HasTag, BeginsWithTag, Precedes}
+use Rattle.text_lines.specs.Elements.{BeginsWithTag, HasTag, Item, Precedes, character, characters, element_items}
+use Rattle.text_lines.specs.Elements.{elements_items, elements_text, tagged}
 use Rattle.text_lines.proofs.Joins.{characters-append, characters-tagged, elements_characters}
 
 -- ---- the first element

@@ -1,13 +1,13 @@
 -- Elements stay joined where texts and markers are added at their end.
-use Rattle.std.proofs.Common.{◌≡◌, ◌≢◌, ℕ, suc, ◌+◌, ◌-◌, List, [], ◌∷◌, ◌++◌, length, get_or, set, take, drop, sym, ap}
-use Rattle.std.proofs.Common.{◌∙◌, refl, subst, append_assoc, arith}
-use Rattle.std.specs.Prelude.{Option, None, Some, Result, Ok, Err, OnOk, OnErr, is_ok, chars, string_bytes, IsSomeAnd}
-use Rattle.std.specs.Prelude.{slice_get, if◌then◌else◌}
+use Rattle.std.proofs.Common.{◌≡◌, ◌≢◌, ◌+◌, ◌-◌, [], ◌∷◌, ◌++◌, ◌∙◌, List, ap, append_assoc, arith, drop, get_or}
+use Rattle.std.proofs.Common.{length, refl, set, subst, suc, sym, take, ℕ}
+use Rattle.std.specs.Prelude.{if◌then◌else◌, Err, IsSomeAnd, None, Ok, OnErr, OnOk, Option, Result, Some, chars, is_ok}
+use Rattle.std.specs.Prelude.{slice_get, string_bytes}
 use Rattle.text_lines.specs.declared.tagged_string.TaggedString.{TaggedString}
 use Rattle.text_lines.specs.declared.tagged_string.TaggedLineElement.{TaggedLineElement}
 use Rattle.text_lines.specs.declared.tagged_string.TaggedLineElement.TheVariants.{Str, FragmentStart}
-use Rattle.text_lines.specs.Elements.{Item, tagged, element_items, element_text, elements_items, HasTag}
-use Rattle.text_lines.specs.Elements.{BeginsWithTag, EndsWithTag, MeetWithTag, AreJoined, Extends, CopiesAll}
+use Rattle.text_lines.specs.Elements.{AreJoined, BeginsWithTag, CopiesAll, EndsWithTag, Extends, HasTag, Item}
+use Rattle.text_lines.specs.Elements.{MeetWithTag, element_items, element_text, elements_items, tagged}
 use Rattle.text_lines.proofs.Joins.{elements_items-append, last_split, last_set}
 
 ends_later : {T S : Type 0} (seen : T → S) (tag : S) (e f : TaggedLineElement T) (es : List (TaggedLineElement T))

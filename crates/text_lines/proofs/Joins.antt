@@ -1,8 +1,8 @@
 -- Texts and markers that are added at the end of a line's elements.
-use Rattle.std.proofs.Common.{◌≡◌, ℕ, ◌+◌, ◌-◌, ◌<◌, subst, List, [], ◌∷◌, ◌++◌, length, get_or, set, take, sym, ap}
-use Rattle.std.proofs.Common.{◌∙◌, refl, append_assoc, arith, add-zero}
-use Rattle.std.specs.Prelude.{Option, None, Some, chars, string_bytes, IsSomeAnd, slice_get}
-use Rattle.std.specs.Prelude.{Result, Ok, Err, OnOk, OnErr}
+use Rattle.std.proofs.Common.{◌≡◌, ◌+◌, ◌-◌, ◌<◌, [], ◌∷◌, ◌++◌, ◌∙◌, List, add-zero, ap, append_assoc, arith, get_or}
+use Rattle.std.proofs.Common.{length, refl, set, subst, sym, take, ℕ}
+use Rattle.std.specs.Prelude.{Err, IsSomeAnd, None, Ok, OnErr, OnOk, Option, Result, Some, chars, slice_get}
+use Rattle.std.specs.Prelude.{string_bytes}
 use Rattle.std.proofs.lemmas.Str.{chars-append, chars-nil, chars_past_char, IsUtf8-encode, IsUtf8-string_bytes}
 use Rattle.std.specs.Char.{IsScalar}
 use lib.Utf8.{encode}
@@ -12,8 +12,8 @@ use Rattle.std.proofs.lemmas.Option.{slice_get-get_or}
 use Rattle.text_lines.specs.declared.tagged_string.TaggedLineElement.{TaggedLineElement}
 use Rattle.text_lines.specs.declared.tagged_string.TaggedLineElement.TheVariants.{Str, FragmentStart}
 use Rattle.text_lines.specs.Columns.{text_columns, width_of}
-use Rattle.text_lines.specs.Elements.{Item, character, marker, tagged, characters, element_items, elements_items}
-use Rattle.text_lines.specs.Elements.{elements_text, element_text, HasTag, EndsWithTag, Extends}
+use Rattle.text_lines.specs.Elements.{EndsWithTag, Extends, HasTag, Item, character, characters, element_items}
+use Rattle.text_lines.specs.Elements.{element_text, elements_items, elements_text, marker, tagged}
 
 -- ---- the items of joined lists
 

@@ -1,6 +1,6 @@
 -- Texts of spaces.
-use Rattle.std.proofs.Common.{◌≡◌, ℕ, zero, suc, ◌-◌, ◌+◌, ◌<◌, ◌≤◌, List, ◌∷◌, ◌++◌, replicate, sym, ap, ◌∙◌, refl}
-use Rattle.std.proofs.Common.{append_assoc, subst, arith}
+use Rattle.std.proofs.Common.{◌≡◌, ◌-◌, ◌+◌, ◌<◌, ◌≤◌, ◌∷◌, ◌++◌, ◌∙◌, List, ap, append_assoc, arith, refl, replicate}
+use Rattle.std.proofs.Common.{subst, suc, sym, zero, ℕ}
 use Rattle.std.specs.Str.{chars, IsAscii, IsCharBoundary}
 use Rattle.std.proofs.lemmas.Str.Ascii.{IsAscii-from_all}
 use Rattle.std.proofs.lemmas.List.Elements.{All-replicate}

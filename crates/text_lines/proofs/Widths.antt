@@ -1,7 +1,6 @@
 -- A text takes at most as many columns as it has bytes.
-use Rattle.std.proofs.Common.{◌≡◌, ℕ, zero, suc, ◌+◌, ◌<◌, ◌≤◌, Bool, true, false, cond, if◌then◌else◌, List, [], ◌∷◌}
-use Rattle.std.proofs.Common.{◌++◌, length, get_or, take, ap, ◌∙◌, refl, arith, length-append, ltb, leb, min, inr}
-use Rattle.std.proofs.Common.{subst}
+use Rattle.std.proofs.Common.{◌≡◌, ◌+◌, ◌<◌, ◌≤◌, if◌then◌else◌, [], ◌∷◌, ◌++◌, ◌∙◌, Bool, List, ap, arith, cond, false}
+use Rattle.std.proofs.Common.{get_or, inr, leb, length, length-append, ltb, min, refl, subst, suc, take, true, zero, ℕ}
 use Rattle.std.specs.Prelude.{Option, None, Some, IfSome, unwrap_or}
 use Rattle.std.specs.Option.{option_map}
 use Rattle.std.specs.Char.{len_utf8}
@@ -11,8 +10,8 @@ use Rattle.std.proofs.lemmas.List.Sums.{sum_by-cons, sum_by_more, sum_by_more_le
 use Rattle.std.proofs.lemmas.List.{take_all, length_push}
 use Rattle.std.proofs.lemmas.Bool.Decides.{nat_tests}
 use Rattle.unicode_width.specs.Width.{char_width, alone}
-use Rattle.text_lines.specs.Columns.{columns_of, width_of, text_columns, is_border, columns_of-at_most_two}
-use Rattle.text_lines.specs.Columns.{columns_of-one}
+use Rattle.text_lines.specs.Columns.{columns_of, columns_of-at_most_two, columns_of-one, is_border, text_columns}
+use Rattle.text_lines.specs.Columns.{width_of}
 use lib.Utf8.{encodes, encode}
 
 most_of : (o : Option ℕ) (m : ℕ) → IfSome o (λ n. n ≤ m) → unwrap_or o 0 ≤ m

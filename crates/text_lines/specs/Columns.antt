@@ -1,7 +1,7 @@
 -- How many columns a character and a text take. Unicode Standard Annex #11 gives a character's width; a
 -- text's columns are the sum over its characters.
-use Rattle.std.specs.Prelude.{◌≡◌, ℕ, ◌≤◌, Bool, true, false, ◌==◌, ◌||◌, ◌⊎◌, min, List, Option, None, Some, IfSome}
-use Rattle.std.specs.Prelude.{unwrap_or, sum_by, IsTrue, if◌then◌else◌, refl}
+use Rattle.std.specs.Prelude.{◌≡◌, ◌≤◌, ◌==◌, ◌||◌, ◌⊎◌, if◌then◌else◌, Bool, IfSome, IsTrue, List, None, Option, Some}
+use Rattle.std.specs.Prelude.{false, min, refl, sum_by, true, unwrap_or, ℕ}
 use Rattle.std.specs.Option.{option_map}
 use Rattle.unicode_width.specs.Width.{char_width}
 use Rattle.std.proofs.Common.{arith, ap, inl, inr}

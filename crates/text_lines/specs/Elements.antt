@@ -1,6 +1,6 @@
 -- What contracts see of the elements of a line: characters with their tags, and markers, in order.
-use Rattle.std.specs.Prelude.{◌≡◌, ◌≢◌, ℕ, ◌-◌, List, [], ◌∷◌, ◌++◌, map, length, slice_get, IsSomeAnd, chars}
-use Rattle.std.specs.Prelude.{string_bytes}
+use Rattle.std.specs.Prelude.{◌≡◌, ◌≢◌, ◌-◌, [], ◌∷◌, ◌++◌, IsSomeAnd, List, chars, length, map, slice_get}
+use Rattle.std.specs.Prelude.{string_bytes, ℕ}
 use Rattle.text_lines.specs.declared.tagged_string.TaggedString.{TaggedString}
 use Rattle.text_lines.specs.declared.tagged_string.TaggedLineElement.{TaggedLineElement}
 use Rattle.text_lines.specs.declared.tagged_string.TaggedLineElement.TheVariants.{Str, FragmentStart}

@@ -1,4 +1,4 @@
--- What `==` emits of tagged strings and of the elements of a line.
+-- What `==` says of tagged strings and of the elements of a line.
 use Rattle.std.specs.Prelude.{◌≡◌, chars, string_bytes}
 use Rattle.text_lines.specs.declared.tagged_string.TaggedString.{TaggedString}
 use Rattle.text_lines.specs.declared.tagged_string.TaggedLineElement.{TaggedLineElement}

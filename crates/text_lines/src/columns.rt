@@ -1,6 +1,6 @@
 ghost use Rattle.std.specs.Prelude.{◌≡◌, ℕ, ◌≤◌, Option, Some, IfSome};
-ghost use Rattle.text_lines.specs.Columns.{columns_of, columns_of-at_most_two, columns_of-one, is_border};
-ghost use Rattle.text_lines.specs.Columns.{IsOfOneColumn};
+ghost use Rattle.text_lines.specs.Columns.{IsOfOneColumn, columns_of, columns_of-at_most_two, columns_of-one};
+ghost use Rattle.text_lines.specs.Columns.{is_border};
 
 use unicode_width::UnicodeWidthChar;
 

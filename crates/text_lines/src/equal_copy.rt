@@ -3,7 +3,7 @@ ghost use Rattle.text_lines.specs.Copies.{seen-same, seen-apart};
 
 use std::alloc::{AllocError, Global};
 
-/// A tag that can be copied: contracts see a tag by what is the same in its copy, and `==` emits just
+/// A tag that can be copied: contracts see a tag by what is the same in its copy, and `==` tests just
 /// that.
 pub trait EqualCopy: Eq {
     ghost Seen: { Type 0 };

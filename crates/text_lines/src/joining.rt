@@ -1,10 +1,9 @@
 //! Adding text at the end of a line's elements, and in front of them.
 
-ghost use Rattle.std.specs.Prelude.{◌≡◌, ◌≢◌, ◌<◌, ◌≤◌, ◌↔◌, [], ◌∷◌, ◌++◌, chars, string_bytes, vec_len, vec_capacity};
-ghost use Rattle.std.specs.Prelude.{IfOk, OnOk, OnErr, IsTrue};
-ghost use Rattle.text_lines.specs.Elements.{element_items, elements_items, tagged, marker, AreJoined, EndsWithTag};
-ghost use Rattle.std.specs.Prelude.{false};
-ghost use Rattle.text_lines.specs.Elements.{MeetWithTag, BeginsWithTag, IsOnlyText};
+ghost use Rattle.std.specs.Prelude.{◌≡◌, ◌≢◌, ◌<◌, ◌≤◌, ◌↔◌, [], ◌∷◌, ◌++◌, IfOk, IsTrue, OnErr, OnOk, chars, false};
+ghost use Rattle.std.specs.Prelude.{string_bytes, vec_capacity, vec_len};
+ghost use Rattle.text_lines.specs.Elements.{AreJoined, BeginsWithTag, EndsWithTag, IsOnlyText, MeetWithTag};
+ghost use Rattle.text_lines.specs.Elements.{element_items, elements_items, marker, tagged};
 
 use crate::equal_copy::EqualCopy;
 use crate::tagged_string::{TaggedLineElement, TaggedString, roomy_copy};

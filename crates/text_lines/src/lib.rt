@@ -4,7 +4,7 @@
 //!
 //! - `UnicodeColumns::columns`: `unicode_width`'s columns, at most two; one for printable ASCII and the characters
 //!   of borders; none where a character has no width. The laws of `Columns`
-//! - `EqualCopy` for `()` and for a `Vec` of such; `copies`: a copy equals its source, and `==` emits just that;
+//! - `EqualCopy` for `()` and for a `Vec` of such; `copies`: a copy equals its source, and `==` tests just that;
 //!   copies of a list's tags equal these, in order, in every `impl`
 //! - `TaggedString`, `TaggedLineElement`: `width` is the sum of the characters' columns; `as_str`; `map_tag`
 //!   changes the tag alone; `try_clone` equals its source

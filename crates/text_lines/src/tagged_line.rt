@@ -1,4 +1,5 @@
-ghost use Rattle.std.specs.Prelude.{◌≡◌, ◌↔◌, [], ◌∷◌, ◌++◌, length, chars, string_bytes, IfErr, IfOk, OnOk, OnErr, IsTrue};
+ghost use Rattle.std.specs.Prelude.{◌≡◌, ◌↔◌, [], ◌∷◌, ◌++◌, length, chars, string_bytes, IfErr, IfOk, OnOk, OnErr};
+ghost use Rattle.std.specs.Prelude.{IsTrue};
 ghost use Rattle.std.specs.Slice.Iter.{iter_rest};
 ghost use Rattle.std.specs.Vec.Iter.{into_iter_items, into_iter_len};
 ghost use Rattle.text_lines.specs.Columns.{text_columns};
@@ -35,8 +36,7 @@ impl<T: Drop> Drop for TaggedLine<T> {
 }
 
 impl<T: EqualCopy + Drop> TaggedLine<T> {
-    ghost use Rattle.text_lines.specs.Tagged.{line_items, character, tagged, marker};
-    ghost use Rattle.text_lines.specs.Tagged.{line_columns, IsJoined};
+    ghost use Rattle.text_lines.specs.Tagged.{IsJoined, character, line_columns, line_items, marker, tagged};
     ghost use Rattle.std.specs.Prelude.{replicate};
 
     /// A line without text.

@@ -1,5 +1,5 @@
-ghost use Rattle.std.specs.Prelude.{◌≡◌, ◌≤◌, ◌↔◌, [], length, chars, encode_utf8, string_bytes, IfOk, OnOk, OnErr};
-ghost use Rattle.std.specs.Prelude.{IsTrue};
+ghost use Rattle.std.specs.Prelude.{◌≡◌, ◌≤◌, ◌↔◌, [], IfOk, IsTrue, OnErr, OnOk, chars, encode_utf8, length};
+ghost use Rattle.std.specs.Prelude.{string_bytes};
 ghost use Rattle.text_lines.specs.Columns.{text_columns};
 
 use crate::columns::{Columns, UnicodeColumns};

@@ -1,6 +1,6 @@
 -- A space after a text that ends in visible ASCII changes none of its lines; and lines that end with a text.
-use Rattle.std.proofs.Common.{◌≡◌, ◌≢◌, ℕ, ◌<◌, Bool, true, false, List, [], ◌∷◌, ◌++◌, length, map, inl, inr}
-use Rattle.std.proofs.Common.{sym, ap, ◌∙◌, refl, subst, append_assoc, append-nil, arith}
+use Rattle.std.proofs.Common.{◌≡◌, ◌≢◌, ◌<◌, [], ◌∷◌, ◌++◌, ◌∙◌, Bool, List, ap, append-nil, append_assoc, arith, false}
+use Rattle.std.proofs.Common.{inl, inr, length, map, refl, subst, sym, true, ℕ}
 use Rattle.std.specs.Prelude.{Result, Ok, Err, IfOk, Option, Some, is_some, All, IsTrue, if◌then◌else◌}
 use Rattle.std.proofs.lemmas.List.{length-append, map-append}
 use Rattle.std.proofs.lemmas.List.Sums.{fold-append}
@@ -9,8 +9,8 @@ use Rattle.text_lines.specs.Tagged.{line_items, IsJoined}
 use Rattle.text_lines.specs.declared.tagged_line.TaggedLine.{TaggedLine}
 use Rattle.text_pieces.specs.Sources.{is_filled}
 use Rattle.text_normal.specs.SpacedWords.{IsVisible, EndsVisibly, IsEnded}
-use Rattle.text_normal.specs.Units.{Letter, piece, lettered, letters_columns, has_columns, is_break_point, space_of}
-use Rattle.text_normal.specs.Units.{first_of, units}
+use Rattle.text_normal.specs.Units.{Letter, first_of, has_columns, is_break_point, lettered, letters_columns, piece}
+use Rattle.text_normal.specs.Units.{space_of, units}
 use Rattle.text_normal.specs.Layout.{marks_items}
 use Rattle.text_normal.specs.Greedy.{Filled, all_lines, add_unit, add_units}
 use Rattle.text_normal.specs.Filling.{Reading, reading, read_letter, read_letters, nothing_read, lines_read}
@@ -203,11 +203,11 @@ ends_here seen block lines laid joined =
     }
 
 -- lines with a text after another
-pub ends_behind : {T S : Type 0} (seen : T → S) (block new : NormalText T) (front back all : List (Letter S))
+pub ends_after : {T S : Type 0} (seen : T → S) (block new : NormalText T) (front back all : List (Letter S))
     (lines : List (TaggedLine T)) → all ≡ front ++ back
     → ((width : ℕ) (overflow : Bool) (read : List (Letter S)) → HasRead seen width overflow read block
     → HasRead seen width overflow (read ++ front) new) → EndsAs seen new back lines → EndsAs seen block all lines
-ends_behind seen block new front back all lines all_is reads ends =
+ends_after seen block new front back all lines all_is reads ends =
     let whole = λ (read : List (Letter _)). append_assoc read front back ∙ ap (λ ls. read ++ ls) (sym all_is) in
     record {
       laid = λ width overflow read h.

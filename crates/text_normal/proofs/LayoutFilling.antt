@@ -1,7 +1,7 @@
 -- Filling unit by unit gives the fullest layout.
-use Rattle.std.proofs.Common.{◌≡◌, ℕ, ◌<◌, ◌≤◌, ◌⊎◌, inl, inr, Bool, true, false, IsTrue, List, [], ◌∷◌, ◌++◌, map}
-use Rattle.std.proofs.Common.{flat_map, fold, All, get_or, leb, if◌then◌else◌, refl, sym, ap, subst, ◌∙◌, append_assoc}
-use Rattle.std.proofs.Common.{append-nil, arith}
+use Rattle.std.proofs.Common.{◌≡◌, ◌<◌, ◌≤◌, ◌⊎◌, [], ◌∷◌, ◌++◌, if◌then◌else◌, ◌∙◌, All, Bool, IsTrue, List, ap}
+use Rattle.std.proofs.Common.{append-nil, append_assoc, arith, false, flat_map, fold, get_or, inl, inr, leb, map, refl}
+use Rattle.std.proofs.Common.{subst, sym, true, ℕ}
 use Rattle.std.specs.Prelude.{Option}
 use Rattle.std.specs.List.{AllByRecursion}
 use Rattle.std.proofs.lemmas.Bool.{cond_both}
@@ -10,12 +10,12 @@ use Rattle.std.proofs.lemmas.Bool.Decides.{nat_tests}
 use Rattle.text_lines.specs.Columns.{width_of}
 use Rattle.text_normal.specs.Units.{Letter, Piece, has_letters, letters_columns}
 use Rattle.text_pieces.specs.Sources.{is_filled}
-use Rattle.text_normal.specs.Layout.{Mark, mark, marked, opens, starts, inside, cuttable, can_start, following_columns}
-use Rattle.text_normal.specs.Layout.{columns, unit_marks, IsAllowed, IsFullest, joined_lines}
+use Rattle.text_normal.specs.Layout.{IsAllowed, IsFullest, Mark, can_start, columns, cuttable, following_columns}
+use Rattle.text_normal.specs.Layout.{inside, joined_lines, mark, marked, opens, starts, unit_marks}
 use Rattle.text_normal.specs.Greedy.{Filled, filled, ended, all_lines, add_marks, add_mark, add_unit, add_units}
 use Rattle.text_normal.proofs.LayoutSplits.{Follow, run_more, run_from_allowed, allowed_from_run, joined-append}
-use Rattle.text_normal.proofs.LayoutFullest.{IsBest, AreBest, AllInside, best_last, best_before, best_before_starts}
-use Rattle.text_normal.proofs.LayoutFullest.{AreBest-push, fullest_from_best}
+use Rattle.text_normal.proofs.LayoutFullest.{AllInside, AreBest, AreBest-push, IsBest, best_before, best_before_starts}
+use Rattle.text_normal.proofs.LayoutFullest.{best_last, fullest_from_best}
 
 -- The state holds the marks `ms`, and its lines are the best whatever comes.
 pub record IsFilledWith {S : Type 0} (w : ℕ) (o : Bool) (ms : List (Mark S)) (f : Filled S) : Type 0 where

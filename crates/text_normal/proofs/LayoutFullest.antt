@@ -1,13 +1,13 @@
 -- Lines of which each has as many letters as any line can that starts there: the fullest layout.
-use Rattle.std.proofs.Common.{◌≡◌, ℕ, ◌<◌, ◌≤◌, ◌⊎◌, inl, inr, Bool, true, IsTrue, List, [], ◌∷◌, ◌++◌, length, refl}
-use Rattle.std.proofs.Common.{sym, ap, subst, ◌∙◌, append_assoc, append-nil, lt_irrefl, lt_of_lt_of_le, le_trans}
+use Rattle.std.proofs.Common.{◌≡◌, ◌<◌, ◌≤◌, ◌⊎◌, [], ◌∷◌, ◌++◌, ◌∙◌, Bool, IsTrue, List, ap, append-nil, append_assoc}
+use Rattle.std.proofs.Common.{inl, inr, le_trans, length, lt_irrefl, lt_of_lt_of_le, refl, subst, sym, true, ℕ}
 use Rattle.std.specs.List.{AllByRecursion}
 use Rattle.std.proofs.lemmas.List.{append_cancel_left}
 use Rattle.std.proofs.lemmas.List.Elements.{All-from_recursion, recursion_from_All}
-use Rattle.text_normal.specs.Layout.{Mark, starts, inside, can_start, can_follow, columns, IsAllowed, IsFullest}
-use Rattle.text_normal.specs.Layout.{joined_lines}
-use Rattle.text_normal.proofs.LayoutSplits.{IsLonger, two_fronts, columns_grow, IsRun, run_next, run_from_allowed}
-use Rattle.text_normal.proofs.LayoutSplits.{more_fit, CanBegin, lines_begin, joined-append}
+use Rattle.text_normal.specs.Layout.{IsAllowed, IsFullest, Mark, can_follow, can_start, columns, inside, joined_lines}
+use Rattle.text_normal.specs.Layout.{starts}
+use Rattle.text_normal.proofs.LayoutSplits.{CanBegin, IsLonger, IsRun, columns_grow, joined-append, lines_begin}
+use Rattle.text_normal.proofs.LayoutSplits.{more_fit, run_from_allowed, run_next, two_fronts}
 
 -- An allowed line that is as long as any front of what is left after which a line can begin.
 pub record IsBest {S : Type 0} (w : ℕ) (o : Bool) (line after : List (Mark S)) : Type 0 where

@@ -1,11 +1,11 @@
 -- Two ways to cut a list, and what more letters do to a line.
-use Rattle.std.proofs.Common.{◌≡◌, ℕ, ◌+◌, ◌≤◌, ◌⊎◌, inl, inr, Bool, true, false, IsTrue, List, [], ◌∷◌, ◌++◌, length}
-use Rattle.std.proofs.Common.{refl, ap, ◌∙◌, arith, length-append}
+use Rattle.std.proofs.Common.{◌≡◌, ◌+◌, ◌≤◌, ◌⊎◌, [], ◌∷◌, ◌++◌, ◌∙◌, Bool, IsTrue, List, ap, arith, false, inl, inr}
+use Rattle.std.proofs.Common.{length, length-append, refl, true, ℕ}
 use Rattle.std.specs.List.{AllByRecursion}
 use Rattle.std.proofs.lemmas.List.Elements.{All-from_recursion, recursion_from_All}
 use Rattle.std.proofs.lemmas.Grind.{flat_map-append}
-use Rattle.text_normal.specs.Layout.{Mark, can_start, can_follow, following_columns, columns, IsLine, IsOverflow}
-use Rattle.text_normal.specs.Layout.{IsAllowed, joined_lines}
+use Rattle.text_normal.specs.Layout.{IsAllowed, IsLine, IsOverflow, Mark, can_follow, can_start, columns}
+use Rattle.text_normal.specs.Layout.{following_columns, joined_lines}
 
 -- ---- two fronts of one list
 

@@ -1,14 +1,13 @@
 -- A letter wider than the width has no layout; the columns of a line, which no layout without overflow passes.
-use Rattle.std.proofs.Common.{◌≡◌, ℕ, ◌+◌, ◌<◌, ◌≤◌, inr, false, List, [], ◌∷◌, ◌++◌}
-use Rattle.std.proofs.Common.{All, refl, sym, ap, subst, ◌∙◌, arith, ⊎_elim, Some, None, unwrap_or}
+use Rattle.std.proofs.Common.{◌≡◌, ◌+◌, ◌<◌, ◌≤◌, [], ◌∷◌, ◌++◌, ◌∙◌, ⊎_elim, All, List, None, Some, ap, arith, false}
+use Rattle.std.proofs.Common.{inr, refl, subst, sym, unwrap_or, ℕ}
 use Rattle.std.specs.List.{AllByRecursion}
 use Rattle.std.proofs.lemmas.List.Elements.{All-from_recursion, recursion_from_All}
 use Rattle.std.proofs.lemmas.List.Sums.{sum_by-cons}
 use Rattle.text_lines.specs.Columns.{width_of, columns_of-one, text_columns}
 use Rattle.text_lines.specs.Tagged.{Item, character, characters}
-use Rattle.text_normal.specs.Layout.{Joint, Mark, opens, starts, inside, cuttable, gap, gap_items, following_items}
-use Rattle.text_normal.specs.Layout.{marks_items, following_columns, columns, IsLine, IsLayout, HasNoLayout}
-use Rattle.text_normal.specs.Layout.{joined_lines}
+use Rattle.text_normal.specs.Layout.{HasNoLayout, IsLayout, IsLine, Joint, Mark, columns, cuttable, following_columns}
+use Rattle.text_normal.specs.Layout.{following_items, gap, gap_items, inside, joined_lines, marks_items, opens, starts}
 use Rattle.text_normal.proofs.LayoutSplits.{IsLonger, longer_or_within, following_columns-append}
 
 -- ---- a letter wider than the width

@@ -1,7 +1,7 @@
 -- Markers put among the letters of a text: what is carried of it.
-use Rattle.std.proofs.Common.{◌≡◌, ℕ, ◌+◌, ◌<◌, Bool, true, false, not, ◌&&◌, ◌||◌, nat_lt, List, [], ◌∷◌, ◌++◌, map}
-use Rattle.std.proofs.Common.{length, take, get_or, sym, ap, ◌∙◌, refl, subst, append_assoc, append-nil, arith, String}
-use Rattle.std.proofs.Common.{Global, add-one}
+use Rattle.std.proofs.Common.{◌≡◌, ◌+◌, ◌<◌, ◌&&◌, ◌||◌, [], ◌∷◌, ◌++◌, ◌∙◌, Bool, Global, List, String, add-one, ap}
+use Rattle.std.proofs.Common.{append-nil, append_assoc, arith, false, get_or, length, map, nat_lt, not, refl, subst}
+use Rattle.std.proofs.Common.{sym, take, true, ℕ}
 use Rattle.std.specs.Prelude.{All, fold, string_bytes, if◌then◌else◌}
 use Rattle.std.specs.Str.{chars}
 use Rattle.std.proofs.lemmas.Bool.Decides.{nat_tests}
@@ -14,11 +14,11 @@ use Rattle.text_lines.specs.Columns.{columns_of, width_of}
 use Rattle.text_pieces.specs.Sources.{names, Source, letter, fragment, sourced, is_break_point}
 use Rattle.text_normal.specs.Units.{Letter, lettered}
 use Rattle.text_normal.specs.NormalStates.{HasRead, HasWider}
-use Rattle.text_normal.specs.Riders.{Rider, plain, ride, plain_letter, Carried, carry, is_carrier, in_word_at}
-use Rattle.text_normal.specs.Riders.{has_wide_text}
+use Rattle.text_normal.specs.Riders.{Carried, Rider, carry, has_wide_text, in_word_at, is_carrier, plain, plain_letter}
+use Rattle.text_normal.specs.Riders.{ride}
 use Rattle.text_normal.specs.MarkedTags.{tag_seen}
-use Rattle.text_normal.specs.MarkedStates.{HoldsLetters, Carries, CarriesOn, MeetsWide, AddsWords, MeetsWideWord}
-use Rattle.text_normal.specs.MarkedStates.{BeginsWord, words_letters, words_waiting, in_word_behind}
+use Rattle.text_normal.specs.MarkedStates.{AddsWords, BeginsWord, Carries, CarriesOn, HoldsLetters, MeetsWide}
+use Rattle.text_normal.specs.MarkedStates.{MeetsWideWord, in_word_after, words_letters, words_waiting}
 use Rattle.text_normal.specs.declared.marked.MarkedText.{MarkedText}
 use Rattle.text_normal.specs.declared.marked_tag.MarkedTag.{MarkedTag}
 use Rattle.text_normal.specs.declared.normal.NormalText.{NormalText}
@@ -96,7 +96,7 @@ word_step width k c m f carrier =
 carry_bare : {S : Type 0} (width : ℕ) (cs : List ℕ) (letters : List (Letter (Rider S))) (waiting : List (List ℕ))
     (in_word : Bool) (m f : S) → All (λ c. is_carrier c ≡ false) cs
     → fold (carry width) (carried_so letters waiting in_word) (sourced cs m f)
-    ≡ carried_so (letters ++ lettered cs (plain m)) waiting (in_word_behind width in_word cs)
+    ≡ carried_so (letters ++ lettered cs (plain m)) waiting (in_word_after width in_word cs)
 carry_bare width [] letters waiting in_word m f bare =
     ap (λ ls. carried_so ls waiting in_word) (sym (append-nil letters))
 carry_bare width (c ∷ cs) letters waiting in_word m f bare =
@@ -104,7 +104,7 @@ carry_bare width (c ∷ cs) letters waiting in_word m f bare =
     (All-head (λ d. is_carrier d ≡ false) c cs bare))
     ∙ carry_bare width cs (letters ++ plain_letter c m ∷ []) waiting (in_word_at width in_word c) m f
     (All-tail (λ d. is_carrier d ≡ false) c cs bare)
-    ∙ ap (λ ls. carried_so ls waiting (in_word_behind width in_word (c ∷ cs)))
+    ∙ ap (λ ls. carried_so ls waiting (in_word_after width in_word (c ∷ cs)))
     (append_assoc letters (plain_letter c m ∷ []) (lettered cs (plain m)))
 
 free_step : {S : Type 0} (width : ℕ) (letters : List (Letter (Rider S))) (in_word : Bool) (c : ℕ) (m f : S) (b : Bool)
@@ -115,26 +115,26 @@ free_step width letters in_word c m f false e = bare_step width (carried_so lett
 
 carry_free : {S : Type 0} (width : ℕ) (cs : List ℕ) (letters : List (Letter (Rider S))) (in_word : Bool) (m f : S)
     → fold (carry width) (carried_so letters [] in_word) (sourced cs m f)
-    ≡ carried_so (letters ++ lettered cs (plain m)) [] (in_word_behind width in_word cs)
+    ≡ carried_so (letters ++ lettered cs (plain m)) [] (in_word_after width in_word cs)
 carry_free width [] letters in_word m f = ap (λ ls. carried_so ls [] in_word) (sym (append-nil letters))
 carry_free width (c ∷ cs) letters in_word m f =
     ap (λ k. fold (carry width) k (sourced cs m f)) (free_step width letters in_word c m f (is_carrier c) refl)
     ∙ carry_free width cs (letters ++ plain_letter c m ∷ []) (in_word_at width in_word c) m f
-    ∙ ap (λ ls. carried_so ls [] (in_word_behind width in_word (c ∷ cs)))
+    ∙ ap (λ ls. carried_so ls [] (in_word_after width in_word (c ∷ cs)))
     (append_assoc letters (plain_letter c m ∷ []) (lettered cs (plain m)))
 
 carry_word : {S : Type 0} (width : ℕ) (cs : List ℕ) (letters : List (Letter (Rider S))) (waiting : List (List ℕ))
     (in_word : Bool) (m f : S) → BeginsWord cs
     → fold (carry width) (carried_so letters waiting in_word) (sourced cs m f)
     ≡ carried_so (letters ++ words_letters cs (plain m) waiting) (words_waiting cs waiting)
-    (in_word_behind width in_word cs)
+    (in_word_after width in_word cs)
 carry_word width [] letters waiting in_word m f begins =
     ap (λ ls. carried_so ls waiting in_word) (sym (append-nil letters))
 carry_word width (c ∷ cs) letters waiting in_word m f begins =
     let rides = map (λ name. ride name) waiting in
     ap (λ k. fold (carry width) k (sourced cs m f)) (word_step width (carried_so letters waiting in_word) c m f begins)
     ∙ carry_free width cs (letters ++ (rides ++ plain_letter c m ∷ [])) (in_word_at width in_word c) m f
-    ∙ ap (λ ls. carried_so ls [] (in_word_behind width in_word (c ∷ cs)))
+    ∙ ap (λ ls. carried_so ls [] (in_word_after width in_word (c ∷ cs)))
     (append_assoc letters (rides ++ plain_letter c m ∷ []) (lettered cs (plain m))
     ∙ ap (λ ls. letters ++ ls) (append_assoc rides (plain_letter c m ∷ []) (lettered cs (plain m))))
 
@@ -142,16 +142,16 @@ pub carry_text : {S : Type 0} (width : ℕ) (text front back : List ℕ) (k : Ca
     → All (λ c. is_carrier c ≡ false) front → BeginsWord back
     → fold (carry width) k (sourced text m f)
     ≡ carried_so ((k.letters ++ lettered front (plain m)) ++ words_letters back (plain m) k.waiting)
-    (words_waiting back k.waiting) (in_word_behind width k.in_word text)
+    (words_waiting back k.waiting) (in_word_after width k.in_word text)
 carry_text width text front back k m f whole bare begins =
     ap (fold (carry width) k) (ap (λ cs. sourced cs m f) whole ∙ map-append (λ c. letter c m f) front back)
     ∙ fold-append (carry width) k (sourced front m f) (sourced back m f)
     ∙ ap (λ j. fold (carry width) j (sourced back m f)) (carry_bare width front k.letters k.waiting k.in_word m f bare)
-    ∙ carry_word width back (k.letters ++ lettered front (plain m)) k.waiting (in_word_behind width k.in_word front) m f
+    ∙ carry_word width back (k.letters ++ lettered front (plain m)) k.waiting (in_word_after width k.in_word front) m f
     begins
     ∙ ap (λ b. carried_so ((k.letters ++ lettered front (plain m)) ++ words_letters back (plain m) k.waiting)
     (words_waiting back k.waiting) b)
-    (sym (fold-append (in_word_at width) k.in_word front back) ∙ ap (in_word_behind width k.in_word) (sym whole))
+    (sym (fold-append (in_word_at width) k.in_word front back) ∙ ap (in_word_after width k.in_word) (sym whole))
 
 -- ---- what is too wide
 
@@ -266,7 +266,7 @@ meets_at_rides seen old cs tag never = record {
   wide = λ width overflow letters waiting h. absurd (never width overflow letters h.read);
 }
 
-pub meets_behind : {T S : Type 0} (seen : T → S) (old : MarkedText T) (mid : NormalText (MarkedTag T))
+pub meets_after : {T S : Type 0} (seen : T → S) (old : MarkedText T) (mid : NormalText (MarkedTag T))
     (rides : List (String Global)) (cs : List ℕ) (tag : Rider S)
     → ((width : ℕ) (overflow : Bool) (read : List (Letter (Rider S))) →
     HasRead (tag_seen seen) width overflow read old.text
@@ -274,7 +274,7 @@ pub meets_behind : {T S : Type 0} (seen : T → S) (old : MarkedText T) (mid : N
     → ((width : ℕ) (overflow : Bool) (read : List (Letter (Rider S))) → HasRead (tag_seen seen) width overflow read mid
     → HasWider width overflow (lettered cs tag))
     → MeetsWideWord seen old cs tag
-meets_behind seen old mid rides cs tag first wider = record {
+meets_after seen old mid rides cs tag first wider = record {
   wide = λ width overflow letters waiting h.
       wider width overflow (letters ++ map (λ name. ride name) (names rides)) (first width overflow letters h.read);
 }
@@ -287,7 +287,7 @@ pub text_carried : {T S : Type 0} (seen : T → S) (old mid words new : MarkedTe
     HasRead (tag_seen seen) width overflow read old.text
     → HasRead (tag_seen seen) width overflow (read ++ lettered front (plain m)) mid.text)
     → AddsWords seen mid words back (plain m) → new.width ≡ words.width → new.text ≡ words.text
-    → new.waiting ≡ words.waiting → new.in_word ≡ in_word_behind words.width words.in_word text
+    → new.waiting ≡ words.waiting → new.in_word ≡ in_word_after words.width words.in_word text
     → CarriesOn seen old new (sourced text m f)
 text_carried seen old mid words new text front back m f whole bare begins mw mi mq first second nw nt nq ni = record {
   carries = λ width overflow k h.
@@ -296,18 +296,18 @@ text_carried seen old mid words new text front back m f whole bare begins mw mi 
         read = first width overflow k.letters h.holds.read;
         waits = ap (λ q. names q.items) mq ∙ h.holds.waits;
       } in
-      let behind = second.adds width overflow (k.letters ++ lettered front (plain m)) k.waiting start in
+      let trailing = second.adds width overflow (k.letters ++ lettered front (plain m)) k.waiting start in
       subst (λ j. Carries seen width overflow j new) (sym (carry_text width text front back k m f whole bare begins))
       (record {
         holds = record {
-          same_width = nw ∙ behind.same_width;
+          same_width = nw ∙ trailing.same_width;
           read = subst (λ t. HasRead (tag_seen seen) width overflow
               ((k.letters ++ lettered front (plain m)) ++ words_letters back (plain m) k.waiting) t) (sym nt)
-              behind.read;
-          waits = ap (λ q. names q.items) nq ∙ behind.waits;
+              trailing.read;
+          waits = ap (λ q. names q.items) nq ∙ trailing.waits;
         };
-        in_word = ni ∙ ap (λ w. in_word_behind w words.in_word text) behind.same_width
-            ∙ ap (λ b. in_word_behind width b text) (second.in_word ∙ mi ∙ h.in_word);
+        in_word = ni ∙ ap (λ w. in_word_after w words.in_word text) trailing.same_width
+            ∙ ap (λ b. in_word_after width b text) (second.in_word ∙ mi ∙ h.in_word);
       });
 }
 
@@ -367,13 +367,13 @@ marker_rides seen old new name riding w i q read = record {
       });
 }
 
-pub marker_waits : {T S : Type 0} (seen : T → S) (old new : MarkedText T) (name : String Global) (told : List ℕ)
-    → chars (string_bytes name) ≡ told → old.in_word ≡ false
+pub marker_waits : {T S : Type 0} (seen : T → S) (old new : MarkedText T) (name : String Global) (emitted : List ℕ)
+    → chars (string_bytes name) ≡ emitted → old.in_word ≡ false
     → new.width ≡ old.width → new.in_word ≡ old.in_word → new.text ≡ old.text
-    → new.waiting.items ≡ old.waiting.items ++ name ∷ [] → CarriesOn seen old new (fragment told ∷ [])
-marker_waits seen old new name told is riding w i t q = record {
+    → new.waiting.items ≡ old.waiting.items ++ name ∷ [] → CarriesOn seen old new (fragment emitted ∷ [])
+marker_waits seen old new name emitted is riding w i t q = record {
   carries = λ width overflow k h.
-      subst (λ j. Carries seen width overflow j new) (sym (marker_at width k told false (sym h.in_word ∙ riding)))
+      subst (λ j. Carries seen width overflow j new) (sym (marker_at width k emitted false (sym h.in_word ∙ riding)))
       (record {
         holds = record {
           same_width = w ∙ h.holds.same_width;

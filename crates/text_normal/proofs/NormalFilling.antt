@@ -1,27 +1,27 @@
 -- The lines of the code are those of the filling functions.
-use Rattle.std.proofs.Common.{◌≡◌, ℕ, ◌+◌, ◌<◌, ◌≤◌, Bool, true, false, nat_le, List, [], ◌∷◌, ◌++◌, map, fold, length}
-use Rattle.std.proofs.Common.{get_or, take, sym, ap, ◌∙◌, refl, subst, append_assoc, arith}
+use Rattle.std.proofs.Common.{◌≡◌, ◌+◌, ◌<◌, ◌≤◌, [], ◌∷◌, ◌++◌, ◌∙◌, Bool, List, ap, append_assoc, arith, false, fold}
+use Rattle.std.proofs.Common.{get_or, length, map, nat_le, refl, subst, sym, take, true, ℕ}
 use Rattle.std.specs.Prelude.{Option, All, if◌then◌else◌}
 use Rattle.std.proofs.lemmas.List.{append-nil, map-append}
 use Rattle.std.proofs.lemmas.List.Elements.{All-push}
 use Rattle.std.proofs.lemmas.List.Sums.{fold-append}
 use Rattle.std.proofs.lemmas.Bool.Decides.{nat_tests}
 use Rattle.text_lines.specs.Columns.{width_of}
-use Rattle.text_lines.specs.Tagged.{Item, character, marker, line_items, line_columns, tagged, element_items}
-use Rattle.text_lines.specs.Tagged.{elements_items, IsJoined}
+use Rattle.text_lines.specs.Tagged.{IsJoined, Item, character, element_items, elements_items, line_columns, line_items}
+use Rattle.text_lines.specs.Tagged.{marker, tagged}
 use Rattle.text_lines.specs.declared.tagged_string.TaggedLineElement.{TaggedLineElement}
 use Rattle.text_lines.specs.declared.tagged_line.TaggedLine.{TaggedLine}
 use Rattle.text_lines.proofs.Joins.{elements_items-append}
 use Rattle.text_normal.specs.Units.{Letter, letters_columns}
-use Rattle.text_normal.specs.Layout.{Mark, opens, starts, inside, cuttable, marked, gap, columns, following_columns}
-use Rattle.text_normal.specs.Layout.{marks_items}
+use Rattle.text_normal.specs.Layout.{Mark, columns, cuttable, following_columns, gap, inside, marked, marks_items}
+use Rattle.text_normal.specs.Layout.{opens, starts}
 use Rattle.text_normal.specs.Greedy.{Filled, filled, ended, all_lines, add_marks, add_mark}
-use Rattle.text_normal.specs.NormalStates.{HoldsLines, Lays, LaysUnit, LaysWhole, LaysCut, Cuts, ShowsAs, AreGapless}
-use Rattle.text_normal.specs.NormalStates.{letter_items, space_columns, space_behind, with_room}
+use Rattle.text_normal.specs.NormalStates.{AreGapless, Cuts, HoldsLines, Lays, LaysCut, LaysUnit, LaysWhole, ShowsAs}
+use Rattle.text_normal.specs.NormalStates.{letter_items, space_after, space_columns, with_room}
 use Rattle.text_normal.specs.declared.filling.Filling.{Filling}
 use Rattle.text_pieces.proofs.ElementLemmas.{next_taken}
-use Rattle.text_normal.proofs.NormalItems.{marks_counted, letters_counted, behind_items, items_behind, columns_behind}
-use Rattle.text_normal.proofs.NormalItems.{unit_columns, unit_items, lone_items, lone_columns, cut_shows}
+use Rattle.text_normal.proofs.NormalItems.{after_items, columns_after, cut_shows, items_after, letters_counted}
+use Rattle.text_normal.proofs.NormalItems.{lone_columns, lone_items, marks_counted, unit_columns, unit_items}
 
 pub if_true : {A : Type 0} (b : Bool) (x y : A) → b ≡ true → (if b then x else y) ≡ x
 if_true true x y h = refl
@@ -98,7 +98,7 @@ add_by_room width done [] ms more h =
     (same_filled (done ++ []) done ms none) in
     left ∙ sym right
 add_by_room width done (n ∷ ns) ms more h =
-    let test = ap (λ k. nat_le k width) (columns_behind n ns ms ∙ ap (λ k. columns (n ∷ ns) + k) h) in
+    let test = ap (λ k. nat_le k width) (columns_after n ns ms ∙ ap (λ k. columns (n ∷ ns) + k) h) in
     ap (λ b. if b then filled done ((n ∷ ns) ++ ms) else filled (done ++ (n ∷ ns) ∷ []) ms) test
     ∙ sym (push_if (nat_le (columns (n ∷ ns) + more) width) (filled done (n ∷ ns)) (filled (done ++ (n ∷ ns) ∷ []) [])
     ms)
@@ -107,14 +107,14 @@ add_by_room width done (n ∷ ns) ms more h =
 pub holds_pushed : {T S : Type 0} (seen : T → S) (width : ℕ) (overflow : Bool) (old new : Filling T) (f : Filled S)
     (ms : List (Mark S)) → HoldsLines seen width overflow old f → new.width ≡ old.width
     → new.allow_overflow ≡ old.allow_overflow → new.done.items ≡ old.done.items
-    → line_items seen new.line ≡ line_items seen old.line ++ behind_items f.line ms
+    → line_items seen new.line ≡ line_items seen old.line ++ after_items f.line ms
     → (IsJoined seen old.line → IsJoined seen new.line) → HoldsLines seen width overflow new (pushed f ms)
 holds_pushed seen width overflow old new f ms h w o d added joins =
     record {
       same_width = w ∙ h.same_width;
       same_overflow = o ∙ h.same_overflow;
       done = ap (map (line_items seen)) d ∙ h.done;
-      line = added ∙ ap (λ items. items ++ behind_items f.line ms) h.line ∙ sym (items_behind f.line ms);
+      line = added ∙ ap (λ items. items ++ after_items f.line ms) h.line ∙ sym (items_after f.line ms);
       joined = record { done = subst (All (IsJoined seen)) (sym d) h.joined.done; line = joins h.joined.line };
     }
 
@@ -157,7 +157,7 @@ pub unit_pushed : {T S : Type 0} (seen : T → S) (old mid new : Filling T) (spa
     → gap_columns ≡ space_columns space → word_columns ≡ line_columns word
     → Lays seen old mid (with_room (gap_columns + word_columns))
     → new.width ≡ mid.width → new.allow_overflow ≡ mid.allow_overflow → new.done.items ≡ mid.done.items
-    → line_items seen new.line ≡ line_items seen mid.line ++ space_behind (line_items seen mid.line) space ++ word
+    → line_items seen new.line ≡ line_items seen mid.line ++ space_after (line_items seen mid.line) space ++ word
     → (IsJoined seen mid.line → IsJoined seen new.line)
     → LaysWhole seen old new space word
 unit_pushed seen old mid new space word gap_columns word_columns gap_is word_is made w o d added joins =
@@ -171,9 +171,9 @@ unit_pushed seen old mid new space word gap_columns word_columns gap_is word_is 
                 let g = with_room (gap_columns + word_columns) width f in
                 let held = made.lays width overflow f h in
                 let items = added ∙ append_assoc (line_items seen mid.line)
-                (space_behind (line_items seen mid.line) space) word
-                ∙ ap (λ line. line_items seen mid.line ++ (space_behind line space ++ word)) held.line
-                ∙ ap (λ rest. line_items seen mid.line ++ (space_behind (marks_items g.line) space ++ rest)) is
+                (space_after (line_items seen mid.line) space) word
+                ∙ ap (λ line. line_items seen mid.line ++ (space_after line space ++ word)) held.line
+                ∙ ap (λ rest. line_items seen mid.line ++ (space_after (marks_items g.line) space ++ rest)) is
                 ∙ ap (λ rest. line_items seen mid.line ++ rest) (sym (unit_items g.line space l ls)) in
                 subst (HoldsLines seen width overflow new)
                 (sym (add_by_room width f.done f.line ms (gap_columns + word_columns) more))

@@ -1,6 +1,6 @@
 -- What a block makes of what was read is the fullest layout, and what it refuses has none.
-use Rattle.std.proofs.Common.{◌≡◌, ℕ, ◌≤◌, ◌⊎◌, Bool, true, false, nat_le, ◌||◌, List, ◌++◌, map, get_or, inl, inr, sym}
-use Rattle.std.proofs.Common.{ap, ◌∙◌, refl, subst, append_assoc, arith}
+use Rattle.std.proofs.Common.{◌≡◌, ◌≤◌, ◌⊎◌, ◌||◌, ◌++◌, ◌∙◌, Bool, List, ap, append_assoc, arith, false, get_or, inl}
+use Rattle.std.proofs.Common.{inr, map, nat_le, refl, subst, sym, true, ℕ}
 use Rattle.std.specs.Prelude.{Result, Ok, Err, IfOk, All}
 use Rattle.std.proofs.lemmas.Bool.Decides.{nat_tests}
 use Rattle.text_lines.specs.Columns.{width_of}
@@ -51,9 +51,9 @@ pub wider_never : {S : Type 0} (width : ℕ) (overflow : Bool) (ls : List (Lette
 wider_never width overflow ls w = never_fits width (no_layout_of_wider width) ls w.front w.back w.letter w.whole
     w.stands w.wider
 
-pub never_behind : {S : Type 0} (width : ℕ) (read ls : List (Letter S)) → NeverFits width false ls
+pub never_after : {S : Type 0} (width : ℕ) (read ls : List (Letter S)) → NeverFits width false ls
     → NeverFits width false (read ++ ls)
-never_behind width read ls never before after =
+never_after width read ls never before after =
     subst (λ xs. HasNoLayout width false (marks width xs)) (append_assoc before read (ls ++ after)
     ∙ ap (λ xs. before ++ xs) (sym (append_assoc read ls after))) (never (before ++ read) after)
 

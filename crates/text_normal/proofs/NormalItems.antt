@@ -5,9 +5,9 @@ use Rattle.std.proofs.lemmas.List.Sums.{sum_by-cons}
 use Rattle.text_lines.specs.Columns.{columns_of, text_columns, width_of, columns_of-one}
 use Rattle.text_lines.specs.Tagged.{Item, character, characters, line_columns, tagged}
 use Rattle.text_normal.specs.Units.{Letter, letters_columns}
-use Rattle.text_normal.specs.Layout.{Mark, Joint, mark, opens, starts, inside, cuttable, marked, gap, columns}
-use Rattle.text_normal.specs.Layout.{following_columns, gap_items, following_items, marks_items}
-use Rattle.text_normal.specs.NormalStates.{letter_items, space_columns, space_behind, AreGapless, ShowsAs}
+use Rattle.text_normal.specs.Layout.{Joint, Mark, columns, cuttable, following_columns, following_items, gap, gap_items}
+use Rattle.text_normal.specs.Layout.{inside, mark, marked, marks_items, opens, starts}
+use Rattle.text_normal.specs.NormalStates.{letter_items, space_columns, space_after, AreGapless, ShowsAs}
 
 -- ---- columns
 
@@ -72,18 +72,18 @@ following_columns-append [] ys = omega arith
 following_columns-append (x ∷ xs) ys = let rest = following_columns-append xs ys in omega (arith, rest)
 
 -- what letters add to a line
-abbrev pub behind_items : {S : Type 0} → List (Mark S) → List (Mark S) → List (Item S)
-behind_items [] ms = marks_items ms
-behind_items (n ∷ ns) ms = following_items ms
+abbrev pub after_items : {S : Type 0} → List (Mark S) → List (Mark S) → List (Item S)
+after_items [] ms = marks_items ms
+after_items (n ∷ ns) ms = following_items ms
 
-pub items_behind : {S : Type 0} (line ms : List (Mark S)) → marks_items (line ++ ms) ≡ marks_items line ++ behind_items
+pub items_after : {S : Type 0} (line ms : List (Mark S)) → marks_items (line ++ ms) ≡ marks_items line ++ after_items
     line ms
-items_behind [] ms = refl
-items_behind (n ∷ ns) ms = ap (λ rest. character n.letter.code n.letter.tag ∷ rest) (following_items-append ns ms)
+items_after [] ms = refl
+items_after (n ∷ ns) ms = ap (λ rest. character n.letter.code n.letter.tag ∷ rest) (following_items-append ns ms)
 
-pub columns_behind : {S : Type 0} (n : Mark S) (ns ms : List (Mark S)) → columns ((n ∷ ns) ++ ms) ≡ columns
+pub columns_after : {S : Type 0} (n : Mark S) (ns ms : List (Mark S)) → columns ((n ∷ ns) ++ ms) ≡ columns
     (n ∷ ns) + following_columns ms
-columns_behind n ns ms = let rest = following_columns-append ns ms in omega (arith, rest)
+columns_after n ns ms = let rest = following_columns-append ns ms in omega (arith, rest)
 
 -- ---- a unit that fits a line
 
@@ -102,7 +102,7 @@ unit_columns None ls l = let rest = inside_columns ls in omega (arith, rest)
 unit_columns (Some tag) ls l = let rest = inside_columns ls in omega (arith, rest)
 
 pub unit_items : {S : Type 0} (line : List (Mark S)) (space : Option S) (l : Letter S) (ls : List (Letter S))
-    → behind_items line (marked (opens space) inside (l ∷ ls)) ≡ space_behind (marks_items line) space ++ letter_items
+    → after_items line (marked (opens space) inside (l ∷ ls)) ≡ space_after (marks_items line) space ++ letter_items
     (l ∷ ls)
 unit_items [] space l ls = ap (λ rest. character l.code l.tag ∷ rest) (inside_items ls)
 unit_items (n ∷ ns) None l ls = ap (λ rest. character l.code l.tag ∷ rest) (inside_items ls)
@@ -118,7 +118,7 @@ gapless_items inside h = refl
 gapless_items cuttable h = refl
 
 pub lone_items : {S : Type 0} (line : List (Mark S)) (m : Mark S) → gap m.joint ≡ 0
-    → behind_items line (m ∷ []) ≡ character m.letter.code m.letter.tag ∷ []
+    → after_items line (m ∷ []) ≡ character m.letter.code m.letter.tag ∷ []
 lone_items [] m h = refl
 lone_items (n ∷ ns) m h = ap (λ front. front ++ character m.letter.code m.letter.tag ∷ []) (gapless_items m.joint h)
 

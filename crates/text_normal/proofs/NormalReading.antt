@@ -1,6 +1,6 @@
 -- What a block holds follows from what was read.
-use Rattle.std.proofs.Common.{◌≡◌, ℕ, ◌+◌, ◌<◌, Bool, true, false, nat_le, nat_lt, ◌||◌, List, [], ◌∷◌, ◌++◌, length}
-use Rattle.std.proofs.Common.{get_or, take, drop, sym, ap, ◌∙◌, refl, subst, append_assoc, arith}
+use Rattle.std.proofs.Common.{◌≡◌, ◌+◌, ◌<◌, ◌||◌, [], ◌∷◌, ◌++◌, ◌∙◌, Bool, List, ap, append_assoc, arith, drop, false}
+use Rattle.std.proofs.Common.{get_or, length, nat_le, nat_lt, refl, subst, sym, take, true, ℕ}
 use Rattle.std.specs.Prelude.{Result, Ok, Err, OnOk, Option, None, Some, is_some, unwrap_or, if◌then◌else◌, IsTrue}
 use Rattle.std.specs.Option.{option_map}
 use Rattle.std.proofs.lemmas.List.{map-append, take-append-drop, drop_more}
@@ -9,13 +9,14 @@ use Rattle.std.proofs.lemmas.List.Sums.{fold-append}
 use Rattle.std.proofs.lemmas.Bool.Decides.{nat_tests}
 use Rattle.text_lines.specs.Columns.{columns_of, width_of}
 use Rattle.text_lines.specs.Tagged.{Item, line_items, line_columns}
-use Rattle.text_normal.specs.Units.{Letter, piece, lettered, letters_columns, has_columns, is_break_point, space_of}
-use Rattle.text_normal.specs.Units.{first_of}
+use Rattle.text_normal.specs.Units.{Letter, first_of, has_columns, is_break_point, lettered, letters_columns, piece}
+use Rattle.text_normal.specs.Units.{space_of}
 use Rattle.text_pieces.specs.Sources.{is_filled}
 use Rattle.text_normal.specs.Greedy.{Filled, add_unit}
 use Rattle.text_normal.specs.Filling.{Reading, reading, read_letter, read_letters, nothing_read, last_filled}
-use Rattle.text_normal.specs.NormalStates.{HoldsLines, LaysUnit, HoldsReading, Moves, Reads, MeetsWider, HasRead}
-use Rattle.text_normal.specs.NormalStates.{HasWider, AllHaveRoom, has_room, word_read, space_read, end_read, lay_read}
+use Rattle.text_normal.specs.NormalStates.{AllHaveRoom, HasRead, HasWider, HoldsLines, HoldsReading, LaysUnit}
+use Rattle.text_normal.specs.NormalStates.{MeetsWider, Moves, Reads, end_read, has_room, lay_read, space_read}
+use Rattle.text_normal.specs.NormalStates.{word_read}
 use Rattle.text_normal.specs.declared.normal.NormalText.{NormalText}
 use Rattle.text_normal.proofs.NormalItems.{letters_counted}
 use Rattle.text_pieces.proofs.ElementLemmas.{next_taken}

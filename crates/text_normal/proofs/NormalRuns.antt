@@ -1,6 +1,6 @@
 -- Characters of a word that are added all at once.
-use Rattle.std.proofs.Common.{◌≡◌, ℕ, Bool, true, false, nat_le, ◌||◌, List, [], ◌∷◌, ◌++◌, sym, ap, ◌∙◌, refl, subst}
-use Rattle.std.proofs.Common.{append_assoc, chars, encode_utf8, ◌≤◌, inr, arith}
+use Rattle.std.proofs.Common.{◌≡◌, ◌||◌, [], ◌∷◌, ◌++◌, ◌∙◌, ◌≤◌, Bool, List, ap, append_assoc, arith, chars}
+use Rattle.std.proofs.Common.{encode_utf8, false, inr, nat_le, refl, subst, sym, true, ℕ}
 use Rattle.std.specs.Prelude.{Some, is_some, IsTrue, All}
 use Rattle.std.specs.Option.{option_map}
 use Rattle.std.specs.Char.{IsScalar}
@@ -13,8 +13,8 @@ use Rattle.text_lines.specs.Columns.{columns_of, columns_of-one, width_of}
 use Rattle.text_lines.specs.Tagged.{line_items, tagged, character}
 use Rattle.text_normal.specs.Units.{Letter, lettered, is_break_point}
 use Rattle.text_normal.specs.Filling.{Reading, reading, read_letters}
-use Rattle.text_normal.specs.NormalStates.{HoldsLines, HoldsReading, Reads, AllHaveRoom, has_room, letter_items}
-use Rattle.text_normal.specs.NormalStates.{JoinsWord, RunsTo}
+use Rattle.text_normal.specs.NormalStates.{AllHaveRoom, HoldsLines, HoldsReading, JoinsWord, Reads, RunsTo, has_room}
+use Rattle.text_normal.specs.NormalStates.{letter_items}
 use Rattle.text_normal.specs.declared.normal.NormalText.{NormalText}
 use Rattle.text_normal.proofs.NormalReading.{other_same, or_skips, width_read}
 

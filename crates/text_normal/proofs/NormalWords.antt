@@ -1,6 +1,6 @@
 -- Whole words that are laid without being held, and texts read front by front.
-use Rattle.std.proofs.Common.{◌≡◌, ◌≢◌, ℕ, ◌+◌, ◌<◌, ◌≤◌, Bool, true, List, [], ◌∷◌, ◌++◌, length, sym, ap, ◌∙◌, refl}
-use Rattle.std.proofs.Common.{subst, append_assoc, append-nil, chars, IsUtf8, encode_utf8, arith}
+use Rattle.std.proofs.Common.{◌≡◌, ◌≢◌, ◌+◌, ◌<◌, ◌≤◌, [], ◌∷◌, ◌++◌, ◌∙◌, Bool, IsUtf8, List, ap, append-nil}
+use Rattle.std.proofs.Common.{append_assoc, arith, chars, encode_utf8, length, refl, subst, sym, true, ℕ}
 use Rattle.std.specs.Prelude.{Option, None, Some, is_some, IsTrue, All, if◌then◌else◌}
 use Rattle.std.specs.Option.{option_map}
 use Rattle.std.proofs.lemmas.List.{map-append, length-append}
@@ -9,13 +9,13 @@ use Rattle.std.proofs.lemmas.List.Sums.{fold-append, sum_by-cons}
 use Rattle.std.proofs.lemmas.Str.{chars-nil, chars_past_char}
 use Rattle.text_lines.specs.Columns.{columns_of, text_columns, width_of}
 use Rattle.text_lines.specs.Tagged.{line_items, tagged}
-use Rattle.text_normal.specs.Units.{Letter, piece, lettered, letters_columns, has_columns, is_break_point}
-use Rattle.text_normal.specs.Units.{is_white_space, space_of, first_of}
+use Rattle.text_normal.specs.Units.{Letter, first_of, has_columns, is_break_point, is_white_space, lettered}
+use Rattle.text_normal.specs.Units.{letters_columns, piece, space_of}
 use Rattle.text_normal.specs.Greedy.{Filled, add_unit}
 use Rattle.text_normal.specs.Filling.{Reading, reading, read_letter, read_letters}
-use Rattle.text_normal.specs.NormalStates.{HoldsLines, LaysUnit, HoldsReading, Moves, Reads, MeetsWider, AllHaveRoom}
-use Rattle.text_normal.specs.NormalStates.{has_room, letter_items, JoinsWord, RunsTo, ReadsFront, ReadsRun, EndsWord}
-use Rattle.text_normal.specs.NormalStates.{LaysWord, space_read}
+use Rattle.text_normal.specs.NormalStates.{AllHaveRoom, EndsWord, HoldsLines, HoldsReading, JoinsWord, LaysUnit}
+use Rattle.text_normal.specs.NormalStates.{LaysWord, MeetsWider, Moves, Reads, ReadsFront, ReadsRun, RunsTo, has_room}
+use Rattle.text_normal.specs.NormalStates.{letter_items, space_read}
 use Rattle.text_normal.specs.declared.normal.NormalText.{NormalText}
 use Rattle.text_normal.proofs.NormalFilling.{if_true}
 use Rattle.text_normal.proofs.NormalReading.{positive, break_room, reads_nothing, reads_more, wider_within}
@@ -103,14 +103,14 @@ word_reads seen old new cs code tag all some empty is_break laid =
     }
 
 pub run_laid : {T S : Type 0} (seen : T → S) (old new : NormalText T) (cs : List ℕ) (columns : ℕ)
-    (rest behind : List ℕ) (code : ℕ) (tag : S) → All (JoinsWord old) cs → columns ≡ text_columns cs
-    → EndsWord seen old columns rest code behind → IsUtf8 rest → LaysWord seen old new cs code tag
-    → ReadsRun seen old new cs (chars rest) (chars behind) tag
-run_laid seen old new cs columns rest behind code tag all counted ends utf8 laid =
+    (rest trailing : List ℕ) (code : ℕ) (tag : S) → All (JoinsWord old) cs → columns ≡ text_columns cs
+    → EndsWord seen old columns rest code trailing → IsUtf8 rest → LaysWord seen old new cs code tag
+    → ReadsRun seen old new cs (chars rest) (chars trailing) tag
+run_laid seen old new cs columns rest trailing code tag all counted ends utf8 laid =
     record {
       front = cs ++ code ∷ [];
-      whole = ap (λ l. cs ++ l) (chars_past_char rest behind code utf8 ends.whole)
-          ∙ sym (append_assoc cs (code ∷ []) (chars behind));
+      whole = ap (λ l. cs ++ l) (chars_past_char rest trailing code utf8 ends.whole)
+          ∙ sym (append_assoc cs (code ∷ []) (chars trailing));
       reads = word_reads seen old new cs code tag all (λ e. ends.some (counted ∙ e)) ends.none_held ends.is_break laid;
     }
 
@@ -121,10 +121,10 @@ run_held seen old new cs rest tag all w l s added =
     record { front = cs; whole = refl; reads = run_reads seen old new cs tag all w l s added }
 
 -- after characters a front of what follows them
-pub run_further : {T S : Type 0} (seen : T → S) (old mid new : NormalText T) (run rest behind left : List ℕ) (tag : S)
-    → ReadsRun seen old mid run rest (chars behind) tag → ReadsFront seen mid new behind left tag
+pub run_further : {T S : Type 0} (seen : T → S) (old mid new : NormalText T) (run rest trailing left : List ℕ) (tag : S)
+    → ReadsRun seen old mid run rest (chars trailing) tag → ReadsFront seen mid new trailing left tag
     → ReadsRun seen old new run rest (chars left) tag
-run_further seen old mid new run rest behind left tag first second =
+run_further seen old mid new run rest trailing left tag first second =
     record {
       front = first.front ++ second.front;
       whole = first.whole ∙ ap (λ l. first.front ++ l) second.whole

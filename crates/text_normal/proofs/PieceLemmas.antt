@@ -1,6 +1,6 @@
 -- Pieces of a text, one after another.
-use Rattle.std.proofs.Common.{◌≡◌, ℕ, Bool, true, false, not, ◌&&◌, ◌||◌, nat_le, nat_lt, List, [], ◌∷◌, ◌++◌, map, sym}
-use Rattle.std.proofs.Common.{ap, ◌∙◌, refl, subst, append_assoc, append-nil, arith, length}
+use Rattle.std.proofs.Common.{◌≡◌, ◌&&◌, ◌||◌, [], ◌∷◌, ◌++◌, ◌∙◌, Bool, List, ap, append-nil, append_assoc, arith}
+use Rattle.std.proofs.Common.{false, length, map, nat_le, nat_lt, not, refl, subst, sym, true, ℕ}
 use Rattle.std.specs.Prelude.{Result, Ok, Err, OnOk, All, IsTrue, fold, if◌then◌else◌}
 use Rattle.std.proofs.lemmas.Bool.Decides.{nat_tests}
 use Rattle.std.proofs.lemmas.Grind.{flat_map-append}
@@ -15,8 +15,8 @@ use Rattle.text_normal.specs.Units.{Letter, lettered, units}
 use Rattle.text_normal.specs.Layout.{Mark, marks_items, IsAllowed}
 use Rattle.text_normal.specs.Greedy.{all_lines, add_units}
 use Rattle.text_normal.specs.NormalStates.{HasRead, AllHaveRoom, has_room}
-use Rattle.text_normal.specs.Riders.{Rider, plain_letter, ride, Carried, carry, carried, nothing_carried, is_carrier}
-use Rattle.text_normal.specs.Riders.{settled_rest, shown_lines, normal_waiting, has_wide_text}
+use Rattle.text_normal.specs.Riders.{Carried, Rider, carried, carry, has_wide_text, is_carrier, normal_waiting}
+use Rattle.text_normal.specs.Riders.{nothing_carried, plain_letter, ride, settled_rest, shown_lines}
 use Rattle.text_normal.specs.Letters.{letters_of, has_marker}
 use Rattle.text_normal.specs.MarkedStates.{Carries, CarriesOn, MeetsWide, CarriesFront, ReadsSources}
 use Rattle.text_normal.specs.declared.marked.MarkedText.{MarkedText}
@@ -50,9 +50,9 @@ letters_of-append (fragment name ∷ xs) ys = letters_of-append xs ys
 pub marker_here : {S : Type 0} (xs ys : List (Source S)) → has_marker xs ≡ true → has_marker (xs ++ ys) ≡ true
 marker_here xs ys h = has_marker-append xs ys ∙ ap (λ b. b || has_marker ys) h
 
-pub marker_behind : {S : Type 0} (xs ys : List (Source S)) → has_marker xs ≡ false
+pub marker_after : {S : Type 0} (xs ys : List (Source S)) → has_marker xs ≡ false
     → has_marker (xs ++ ys) ≡ has_marker ys
-marker_behind xs ys h = has_marker-append xs ys ∙ ap (λ b. b || has_marker ys) h
+marker_after xs ys h = has_marker-append xs ys ∙ ap (λ b. b || has_marker ys) h
 
 -- ---- reading
 

@@ -1,6 +1,6 @@
 -- Normal text without markers: its lines are those of its fullest layout.
-use Rattle.std.proofs.Common.{◌≡◌, ℕ, ◌<◌, ◌⊎◌, Bool, true, false, not, ◌&&◌, ◌||◌, nat_le, nat_lt, List, [], ◌∷◌, ◌++◌}
-use Rattle.std.proofs.Common.{map, inl, inr, sym, ap, ◌∙◌, refl, subst, append_assoc, append-nil, arith}
+use Rattle.std.proofs.Common.{◌≡◌, ◌<◌, ◌⊎◌, ◌&&◌, ◌||◌, [], ◌∷◌, ◌++◌, ◌∙◌, Bool, List, ap, append-nil, append_assoc}
+use Rattle.std.proofs.Common.{arith, false, inl, inr, map, nat_le, nat_lt, not, refl, subst, sym, true, ℕ}
 use Rattle.std.specs.Prelude.{All, IsTrue, fold, if◌then◌else◌}
 use Rattle.std.proofs.lemmas.Bool.Decides.{nat_tests}
 use Rattle.std.proofs.lemmas.List.Elements.{All-nil, All-cons, All-head, All-tail}
@@ -12,8 +12,8 @@ use Rattle.text_normal.specs.Units.{Letter, units}
 use Rattle.text_normal.specs.Layout.{Mark, marks_items, IsAllowed, AreLinesOf, NeverFits}
 use Rattle.text_normal.specs.Greedy.{all_lines, add_units}
 use Rattle.text_normal.specs.NormalStates.{AllHaveRoom, has_room, HasWider}
-use Rattle.text_normal.specs.Riders.{Rider, plain, Carried, carry, is_carrier, in_word_at, plain_letter, shown_item}
-use Rattle.text_normal.specs.Riders.{shown_lines, settled_lines, normal_lines, has_wide_text}
+use Rattle.text_normal.specs.Riders.{Carried, Rider, carry, has_wide_text, in_word_at, is_carrier, normal_lines, plain}
+use Rattle.text_normal.specs.Riders.{plain_letter, settled_lines, shown_item, shown_lines}
 use Rattle.text_normal.specs.Letters.{letters_of, has_marker}
 use Rattle.text_normal.proofs.LayoutFilling.{filled_is_fullest, letters_there}
 use Rattle.text_normal.proofs.UnitsLetters.{units_have_letters}
@@ -46,10 +46,10 @@ one_carried : {S : Type 0} (width : ℕ) (before : List (Letter (Rider S))) (in_
 one_carried width before in_word c main further true = refl
 one_carried width before in_word c main further false = refl
 
-plain_behind : {S : Type 0} (width : ℕ) (before : List (Letter (Rider S))) (c : ℕ) (main further : S)
+plain_after : {S : Type 0} (width : ℕ) (before : List (Letter (Rider S))) (c : ℕ) (main further : S)
     (rest : List (Source S)) (k : Carried S) → IsPlain (before ++ plain_letter c main ∷ []) rest k
     → IsPlain before (letter c main further ∷ rest) k
-plain_behind width before c main further rest k h =
+plain_after width before c main further rest k h =
     record { letters = h.letters ∙ more_plain before c main (letters_of rest); waiting = h.waiting }
 
 pub carried_plain : {S : Type 0} (width : ℕ) (source : List (Source S)) (before : List (Letter (Rider S)))
@@ -59,7 +59,7 @@ carried_plain width [] before in_word none = record { letters = sym (append-nil 
 carried_plain width (letter c main further ∷ rest) before in_word none =
     subst (λ k. IsPlain before (letter c main further ∷ rest) (fold (carry width) k rest))
     (sym (one_carried width before in_word c main further (is_carrier c)))
-    (plain_behind width before c main further rest _
+    (plain_after width before c main further rest _
     (carried_plain width rest (before ++ plain_letter c main ∷ []) (in_word_at width in_word c) none))
 carried_plain width (fragment name ∷ rest) before in_word none = cc
 

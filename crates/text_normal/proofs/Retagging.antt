@@ -1,16 +1,16 @@
 -- Tags have no say in a layout: the same letters under other tags stand on the same lines.
-use Rattle.std.proofs.Common.{◌≡◌, ℕ, ◌+◌, Bool, true, false, nat_le, nat_lt, List, [], ◌∷◌, ◌++◌, map, sym, ap, ◌∙◌}
-use Rattle.std.proofs.Common.{refl}
+use Rattle.std.proofs.Common.{◌≡◌, ◌+◌, [], ◌∷◌, ◌++◌, ◌∙◌, Bool, List, ap, false, map, nat_le, nat_lt, refl, sym, true}
+use Rattle.std.proofs.Common.{ℕ}
 use Rattle.std.specs.Prelude.{Option, None, Some, is_some, fold, filter, if◌then◌else◌}
 use Rattle.std.specs.Option.{option_map}
 use Rattle.std.proofs.lemmas.List.{map-append}
 use Rattle.text_lines.specs.Columns.{columns_of, width_of}
 use Rattle.text_lines.specs.Tagged.{character}
 use Rattle.text_pieces.specs.Retagged.{reitem}
-use Rattle.text_normal.specs.Units.{Letter, Piece, piece, letters_columns, has_columns, is_break_point, is_white_space}
-use Rattle.text_normal.specs.Units.{has_letters, with_front, space_of, first_of, pieces_after, joining, joined, units}
-use Rattle.text_normal.specs.Layout.{Joint, opens, starts, inside, cuttable, Mark, mark, marked, gap, following_columns}
-use Rattle.text_normal.specs.Layout.{columns, gap_items, following_items, marks_items}
+use Rattle.text_normal.specs.Units.{Letter, Piece, first_of, has_columns, has_letters, is_break_point, is_white_space}
+use Rattle.text_normal.specs.Units.{joined, joining, letters_columns, piece, pieces_after, space_of, units, with_front}
+use Rattle.text_normal.specs.Layout.{Joint, Mark, columns, cuttable, following_columns, following_items, gap, gap_items}
+use Rattle.text_normal.specs.Layout.{inside, mark, marked, marks_items, opens, starts}
 use Rattle.text_normal.specs.Greedy.{Filled, filled, ended, all_lines, add_marks, add_mark, add_unit, add_units}
 
 abbrev pub retag : {A B : Type 0} → (A → B) → Letter A → Letter B

@@ -1,6 +1,6 @@
 -- Words with a space after the last one: how they are found in a text, and how the space is put there and taken off.
-use Rattle.std.proofs.Common.{◌≡◌, ◌≢◌, ℕ, ◌+◌, ◌-◌, ◌≤◌, List, [], ◌∷◌, ◌++◌, length, sym, ap, ◌∙◌, refl}
-use Rattle.std.proofs.Common.{append_assoc, chars, encode_utf8, IsUtf8, inr, arith, Bool, true, false, ◌&&◌}
+use Rattle.std.proofs.Common.{◌≡◌, ◌≢◌, ◌+◌, ◌-◌, ◌≤◌, [], ◌∷◌, ◌++◌, ◌∙◌, ◌&&◌, Bool, IsUtf8, List, ap, append_assoc}
+use Rattle.std.proofs.Common.{arith, chars, encode_utf8, false, inr, length, refl, sym, true, ℕ}
 use Rattle.std.specs.Char.{IsScalar}
 use Rattle.std.proofs.lemmas.List.{length-append}
 use Rattle.std.proofs.lemmas.Str.{chars-nil, chars-append, chars-IsAscii}
@@ -9,8 +9,8 @@ use Rattle.std.proofs.lemmas.Bool.{eqb-true}
 use Rattle.std.proofs.Math.Dec.{eqb}
 use lib.Pointwise.{pointwise}
 use Rattle.text_lines.proofs.Joins.{chars_of_one}
-use Rattle.text_normal.specs.SpacedWords.{IsVisible, spaced, HasRun, HasWords, IsWordsAndSpace}
-use Rattle.text_normal.specs.SpacedWords.{IsLineAndSpace, EndsVisibly, IsEnded}
+use Rattle.text_normal.specs.SpacedWords.{EndsVisibly, HasRun, HasWords, IsEnded, IsLineAndSpace, IsVisible}
+use Rattle.text_normal.specs.SpacedWords.{IsWordsAndSpace, spaced}
 use Rattle.text_normal.proofs.SpacedLemmas.{some_length, fits_words}
 
 -- ---- words and a space
@@ -31,25 +31,25 @@ line_counted : (first : List ℕ) (words : List (List ℕ)) (n m : ℕ) → n �
     → n + m ≡ length (first ++ spaced words)
 line_counted first words n m one other = omega (arith, one, other, length-append first (spaced words))
 
-pub line_ends : (text behind rest : List ℕ) (n m room : ℕ) → HasRun text behind n room
-    → HasWords behind rest m (room - n) → n ≢ 0 → chars rest ≡ 0x20 ∷ [] → IsLineAndSpace (chars text) (n + m)
-line_ends text behind rest n m room run has some space =
+pub line_ends : (text trailing rest : List ℕ) (n m room : ℕ) → HasRun text trailing n room
+    → HasWords trailing rest m (room - n) → n ≢ 0 → chars rest ≡ 0x20 ∷ [] → IsLineAndSpace (chars text) (n + m)
+line_ends text trailing rest n m room run has some space =
     let p = run.parts in
     let first = chars p.front in
-    let back = words_end behind rest m (room - n) has space in
+    let back = words_end trailing rest m (room - n) has space in
     record {
       first = first;
       words = back.words;
       is_word = record { some = some_length first n run.counted some; visible = run.visible };
       are_words = back.are_words;
-      whole = ap chars p.whole ∙ chars-append p.front behind p.utf8 ∙ ap (λ l. first ++ l) back.whole
+      whole = ap chars p.whole ∙ chars-append p.front trailing p.utf8 ∙ ap (λ l. first ++ l) back.whole
           ∙ sym (append_assoc first (spaced back.words) (0x20 ∷ []));
       counted = line_counted first back.words n m run.counted back.counted;
     }
 
-pub line_fits : (text behind rest : List ℕ) (n m room : ℕ) → HasRun text behind n room
-    → HasWords behind rest m (room - n) → n + m ≤ room
-line_fits text behind rest n m room run has = fits_words n m room run.fits has.fits
+pub line_fits : (text trailing rest : List ℕ) (n m room : ℕ) → HasRun text trailing n room
+    → HasWords trailing rest m (room - n) → n + m ≤ room
+line_fits text trailing rest n m room run has = fits_words n m room run.fits has.fits
 
 -- ---- the space
 
@@ -65,9 +65,9 @@ visible_end text front c utf8 scalar split visible =
       visible = visible;
     }
 
-pub space_behind : (text ended : List ℕ) → IsUtf8 text → EndsVisibly (chars text) → ended ≡ text ++ encode_utf8 0x20
+pub space_after : (text ended : List ℕ) → IsUtf8 text → EndsVisibly (chars text) → ended ≡ text ++ encode_utf8 0x20
     → IsScalar 0x20 → IsEnded (chars text) (chars ended)
-space_behind text ended utf8 visible pushed scalar =
+space_after text ended utf8 visible pushed scalar =
     inr (
       visible,
       ap chars pushed ∙ chars-append text (encode_utf8 0x20) utf8 ∙ ap (λ l. chars text ++ l)

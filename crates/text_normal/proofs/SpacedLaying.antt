@@ -1,7 +1,7 @@
 -- Words after single spaces: how they are read, and laid on a line at once.
-use Rattle.std.proofs.Common.{◌≡◌, ◌≢◌, ℕ, ◌+◌, ◌≤◌, Bool, true, false, ◌||◌, nat_le, List, [], ◌∷◌, ◌++◌, length}
-use Rattle.std.proofs.Common.{fold, sym, ap, ◌∙◌, refl, subst, append_assoc, append-nil, chars, IsUtf8, encode_utf8}
-use Rattle.std.proofs.Common.{inr, arith}
+use Rattle.std.proofs.Common.{◌≡◌, ◌≢◌, ◌+◌, ◌≤◌, ◌||◌, [], ◌∷◌, ◌++◌, ◌∙◌, Bool, IsUtf8, List, ap, append-nil}
+use Rattle.std.proofs.Common.{append_assoc, arith, chars, encode_utf8, false, fold, inr, length, nat_le, refl, subst}
+use Rattle.std.proofs.Common.{sym, true, ℕ}
 use Rattle.std.specs.Prelude.{Some, IsTrue, All}
 use Rattle.std.specs.Option.{option_map}
 use Rattle.std.proofs.lemmas.List.{length-append, map-append}
@@ -15,12 +15,12 @@ use Rattle.text_normal.specs.Units.{Letter, piece, lettered, letters_columns}
 use Rattle.text_normal.specs.Layout.{Mark, opens, inside, marked, columns, following_items}
 use Rattle.text_normal.specs.Greedy.{Filled, filled, add_unit}
 use Rattle.text_normal.specs.Filling.{Reading, reading, read_letter, read_letters}
-use Rattle.text_normal.specs.NormalStates.{HoldsLines, LaysWords, TakesMore, word_pieces, HoldsReading}
-use Rattle.text_normal.specs.NormalStates.{Reads, ReadsFront, AllHaveRoom, has_room, JoinsWord, AwaitsWord}
+use Rattle.text_normal.specs.NormalStates.{AllHaveRoom, AwaitsWord, HoldsLines, HoldsReading, JoinsWord, LaysWords}
+use Rattle.text_normal.specs.NormalStates.{Reads, ReadsFront, TakesMore, has_room, word_pieces}
 use Rattle.text_normal.specs.declared.filling.Filling.{Filling}
 use Rattle.text_normal.specs.declared.normal.NormalText.{NormalText}
-use Rattle.text_normal.proofs.NormalItems.{marks_counted, behind_items, columns_behind, unit_columns, unit_items}
-use Rattle.text_normal.proofs.NormalItems.{following_items-append}
+use Rattle.text_normal.proofs.NormalItems.{after_items, columns_after, following_items-append, marks_counted}
+use Rattle.text_normal.proofs.NormalItems.{unit_columns, unit_items}
 use Rattle.text_normal.proofs.NormalFilling.{if_true, below, pushed, holds_pushed}
 use Rattle.text_normal.proofs.NormalReading.{break_room, width_read}
 use Rattle.text_normal.proofs.NormalRuns.{visible_joins, run_room, lettered_items}
@@ -114,7 +114,7 @@ tagged-append xs ys tag = map-append _ xs ys
 pub record Fills {S : Type 0} (width : ℕ) (f : Filled S) (tag : S) (ws : List (List ℕ)) : Type 0 where
   pub marks : List (Mark S)
   pub whole : fold (add_unit width) f (word_pieces tag ws) ≡ pushed f marks
-  pub items : behind_items f.line marks ≡ tagged (spaced ws) tag
+  pub items : after_items f.line marks ≡ tagged (spaced ws) tag
 
 word_fits : {S : Type 0} (width : ℕ) (done : List (List (Mark S))) (n : Mark S) (ns : List (Mark S)) (tag : S) (c : ℕ)
     (cs : List ℕ) → columns (n ∷ ns) + (1 + letters_columns (lettered (c ∷ cs) tag)) ≤ width
@@ -127,7 +127,7 @@ word_fits width done n ns tag c cs fits =
     let ms = marked (opens (Some tag)) inside ls in
     let more = unit_columns (Some tag) (lettered cs tag) (record { code = c; tag = tag }) in
     let counted : columns ((n ∷ ns) ++ ms) ≡ columns (n ∷ ns) + (1 + letters_columns ls) =
-    columns_behind n ns ms ∙ ap (λ k. columns (n ∷ ns) + k) more in
+    columns_after n ns ms ∙ ap (λ k. columns (n ∷ ns) + k) more in
     let left = below (letters_columns ls) width (omega (arith, fits)) in
     let right = below (columns ((n ∷ ns) ++ ms)) width (omega (arith, fits, counted)) in (
       if_true (nat_le (letters_columns ls) width) _ _ left ∙
@@ -230,27 +230,27 @@ words_moved seen old new words text tag awaits all text_is more laid w s o =
     }
 
 -- the words in front of a text are read, with the space after them
-pub words_taken : {T S : Type 0} (seen : T → S) (old new : NormalText T) (text after here rest back behind : List ℕ)
+pub words_taken : {T S : Type 0} (seen : T → S) (old new : NormalText T) (text after here rest back trailing : List ℕ)
     (n room read c : ℕ) (tag : S) → AwaitsWord seen old tag → IsUtf8 text → IsUtf8 back →
     text ≡ encode_utf8 read ++ after → read ≡ 0x20
     → HasWords text rest n room → ((front : List ℕ) → text ≡ front ++ rest → here ≡ front)
-    → chars text ≡ chars here ++ chars back → back ≡ encode_utf8 c ++ behind → c ≡ 0x20 → n ≢ 0
+    → chars text ≡ chars here ++ chars back → back ≡ encode_utf8 c ++ trailing → c ≡ 0x20 → n ≢ 0
     → ((k : ℕ) → k ≢ 0 → k ≤ room → TakesMore seen old.lines k)
     → LaysWords seen old.lines new.lines (chars here) tag
     → new.width ≡ old.width → new.space ≡ old.space → new.word ≡ old.word
-    → ReadsFront seen old new after behind tag
-words_taken seen old new text after here rest back behind n room read c tag awaits utf8 back_utf8 begins read_is has
+    → ReadsFront seen old new after trailing tag
+words_taken seen old new text after here rest back trailing n room read c tag awaits utf8 back_utf8 begins read_is has
     only
     parts split is_space some takes laid w s o =
     let words_are : chars here ≡ spaced has.words = ap chars (only has.parts.front has.parts.whole) ∙ has.whole in
-    let back_is = chars_past_char back behind c back_utf8 split ∙ ap (λ x. x ∷ chars behind) is_space in
+    let back_is = chars_past_char back trailing c back_utf8 split ∙ ap (λ x. x ∷ chars trailing) is_space in
     let text_is = chars_past_char text after read utf8 begins ∙ ap (λ x. x ∷ chars after) read_is in
     let whole = sym text_is ∙ parts
     ∙ ap (λ l. l ++ chars back) words_are ∙ ap (λ l. spaced has.words ++ l) back_is
-    ∙ closed_spaced has.words (chars behind) in
+    ∙ closed_spaced has.words (chars trailing) in
     record {
       front = closed has.words;
-      whole = same_tail (chars after) (closed has.words ++ chars behind) whole;
+      whole = same_tail (chars after) (closed has.words ++ chars trailing) whole;
       reads = words_moved seen old new has.words (chars here) tag awaits has.are_words words_are
           (subst (TakesMore seen old.lines) has.counted (takes n some has.fits)) laid w s o;
     }

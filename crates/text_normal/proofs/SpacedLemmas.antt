@@ -1,17 +1,17 @@
 -- Words of visible ASCII after single spaces: how they are found in a text.
-use Rattle.std.proofs.Common.{◌≡◌, ◌≢◌, ℕ, suc, ◌+◌, ◌-◌, ◌<◌, ◌≤◌, List, [], ◌∷◌, ◌++◌, length, sym, ap, ◌∙◌, refl}
-use Rattle.std.proofs.Common.{append_assoc, append-nil, chars, encode_utf8, arith}
+use Rattle.std.proofs.Common.{◌≡◌, ◌≢◌, ◌+◌, ◌-◌, ◌<◌, ◌≤◌, [], ◌∷◌, ◌++◌, ◌∙◌, List, ap, append-nil, append_assoc}
+use Rattle.std.proofs.Common.{arith, chars, encode_utf8, length, refl, suc, sym, ℕ}
 use Rattle.std.specs.Char.{IsScalar}
 use Rattle.std.proofs.lemmas.List.{length-append}
 use Rattle.std.proofs.lemmas.List.Elements.{All-nil, All-same, All-push}
 use Rattle.std.proofs.lemmas.Str.{chars-nil, chars-append, IsUtf8-nil, IsUtf8-append, IsUtf8-encode}
 use Rattle.text_lines.proofs.Joins.{chars_of_one}
-use Rattle.text_pieces.specs.Cuts.{IsBehind}
+use Rattle.text_pieces.specs.Cuts.{IsAfter}
 use Rattle.text_normal.specs.SpacedWords.{IsVisible, IsWord, spaced, HasRun, HasWord, HasWords}
 
 -- ---- a run
 
-abbrev nothing_before : (text : List ℕ) → IsBehind text text
+abbrev nothing_before : (text : List ℕ) → IsAfter text text
 nothing_before text = record { front = []; whole = refl; utf8 = IsUtf8-nil }
 
 pub run_starts : (text : List ℕ) (room : ℕ) → HasRun text text 0 room
@@ -22,15 +22,15 @@ run_starts text room = record {
   fits = omega arith;
 }
 
-pub run_more : (text rest behind : List ℕ) (c n room : ℕ) → HasRun text rest n room → rest ≡ encode_utf8 c ++ behind
-    → IsScalar c → IsVisible c → n ≢ room → HasRun text behind (n + 1) room
-run_more text rest behind c n room r split scalar visible some =
+pub run_more : (text rest trailing : List ℕ) (c n room : ℕ) → HasRun text rest n room → rest ≡ encode_utf8 c ++ trailing
+    → IsScalar c → IsVisible c → n ≢ room → HasRun text trailing (n + 1) room
+run_more text rest trailing c n room r split scalar visible some =
     let p = r.parts in
     let front_is = chars-append p.front (encode_utf8 c) p.utf8 ∙ ap (λ l. chars p.front ++ l) (chars_of_one c scalar) in
     record {
       parts = record {
         front = p.front ++ encode_utf8 c;
-        whole = p.whole ∙ ap (λ l. p.front ++ l) split ∙ sym (append_assoc p.front (encode_utf8 c) behind);
+        whole = p.whole ∙ ap (λ l. p.front ++ l) split ∙ sym (append_assoc p.front (encode_utf8 c) trailing);
         utf8 = IsUtf8-append p.front (encode_utf8 c) p.utf8 (IsUtf8-encode c scalar);
       };
       visible = All-same IsVisible (chars (p.front ++ encode_utf8 c)) (chars p.front ++ c ∷ []) front_is
@@ -57,9 +57,9 @@ counted_word n m h = omega (arith, h)
 fits_word : (n room : ℕ) → n ≤ room - 1 → room ≢ 0 → n + 1 ≤ room
 fits_word n room fits some = omega (arith, fits, some)
 
-pub word_found : (text behind rest : List ℕ) (space n room : ℕ) → text ≡ encode_utf8 space ++ behind → IsScalar space
-    → space ≡ 0x20 → HasRun behind rest n (room - 1) → n ≢ 0 → room ≢ 0 → HasWord text rest (n + 1) room
-word_found text behind rest space n room split scalar is_space r some has_room =
+pub word_found : (text trailing rest : List ℕ) (space n room : ℕ) → text ≡ encode_utf8 space ++ trailing → IsScalar space
+    → space ≡ 0x20 → HasRun trailing rest n (room - 1) → n ≢ 0 → room ≢ 0 → HasWord text rest (n + 1) room
+word_found text trailing rest space n room split scalar is_space r some has_room =
     let p = r.parts in
     record {
       parts = record {
@@ -100,15 +100,15 @@ counted_words words word n m n_is m_is =
 pub fits_words : (n m room : ℕ) → n ≤ room → m ≤ room - n → n + m ≤ room
 fits_words n m room one other = omega (arith, one, other)
 
-pub words_more : (text rest behind : List ℕ) (n m room : ℕ) → HasWords text rest n room
-    → HasWord rest behind m (room - n) → HasWords text behind (n + m) room
-words_more text rest behind n m room all one =
+pub words_more : (text rest trailing : List ℕ) (n m room : ℕ) → HasWords text rest n room
+    → HasWord rest trailing m (room - n) → HasWords text trailing (n + m) room
+words_more text rest trailing n m room all one =
     let p = all.parts in
     let q = one.parts in
     record {
       parts = record {
         front = p.front ++ q.front;
-        whole = p.whole ∙ ap (λ l. p.front ++ l) q.whole ∙ sym (append_assoc p.front q.front behind);
+        whole = p.whole ∙ ap (λ l. p.front ++ l) q.whole ∙ sym (append_assoc p.front q.front trailing);
         utf8 = IsUtf8-append p.front q.front p.utf8 q.utf8;
       };
       words = all.words ++ one.word ∷ [];

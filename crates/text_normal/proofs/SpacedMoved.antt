@@ -1,6 +1,6 @@
 -- Words that are moved onto a line in the text that they came in, and the end of a text that is moved.
-use Rattle.std.proofs.Common.{◌≡◌, ℕ, ◌≤◌, Bool, true, ◌||◌, nat_le, List, [], ◌∷◌, ◌++◌, length, fold}
-use Rattle.std.proofs.Common.{sym, ap, ◌∙◌, refl, subst, append_assoc, append-nil, chars, IsUtf8, encode_utf8, arith}
+use Rattle.std.proofs.Common.{◌≡◌, ◌≤◌, ◌||◌, [], ◌∷◌, ◌++◌, ◌∙◌, Bool, IsUtf8, List, ap, append-nil, append_assoc}
+use Rattle.std.proofs.Common.{arith, chars, encode_utf8, fold, length, nat_le, refl, subst, sym, true, ℕ}
 use Rattle.std.specs.Prelude.{Option, None, Some, IsNone, IsTrue, All}
 use Rattle.std.specs.Option.{option_map}
 use Rattle.std.proofs.lemmas.List.{length-append, map-append}
@@ -9,24 +9,23 @@ use Rattle.std.proofs.lemmas.List.Sums.{fold-append}
 use Rattle.std.proofs.lemmas.Str.{chars-nil, chars_past_char}
 use Rattle.text_lines.specs.Columns.{text_columns}
 use Rattle.text_lines.specs.Tagged.{line_items, tagged, IsJoined}
-use Rattle.text_normal.specs.SpacedWords.{IsWord, spaced, closed, IsWordsAndSpace, IsLineAndSpace}
-use Rattle.text_normal.specs.SpacedWords.{EndsInSpace}
+use Rattle.text_normal.specs.SpacedWords.{EndsInSpace, IsLineAndSpace, IsWord, IsWordsAndSpace, closed, spaced}
 use Rattle.text_normal.specs.Units.{Letter, piece, lettered, letters_columns}
 use Rattle.text_normal.specs.Layout.{Mark, opens, inside, marked, columns, marks_items}
 use Rattle.text_normal.specs.Greedy.{Filled, filled, add_unit}
 use Rattle.text_normal.specs.Filling.{Reading, reading, read_letter, read_letters}
-use Rattle.text_normal.specs.NormalStates.{TakesMore, word_pieces, HoldsReading, Reads, ReadsFront}
-use Rattle.text_normal.specs.NormalStates.{AllHaveRoom, has_room, GoesOnWith, FillsLine, FillsOn, HoldsLines}
+use Rattle.text_normal.specs.NormalStates.{AllHaveRoom, FillsLine, FillsOn, GoesOnWith, HoldsLines, HoldsReading, Reads}
+use Rattle.text_normal.specs.NormalStates.{ReadsFront, TakesMore, has_room, word_pieces}
 use Rattle.text_normal.specs.declared.filling.Filling.{Filling}
 use Rattle.text_normal.specs.declared.normal.NormalText.{NormalText}
-use Rattle.text_normal.proofs.NormalItems.{behind_items, items_behind, unit_columns, unit_items}
+use Rattle.text_normal.proofs.NormalItems.{after_items, items_after, unit_columns, unit_items}
 use Rattle.text_normal.proofs.NormalFilling.{if_true, below, pushed, holds_pushed}
 use Rattle.text_normal.proofs.NormalReading.{or_right, break_room, reads_nothing, reads_more}
 use Rattle.text_normal.proofs.NormalRuns.{run_room, lettered_items}
 use Rattle.text_normal.proofs.NormalWords.{whole_read, lettered_columns, no_letters}
-use Rattle.text_normal.proofs.SpacedLaying.{visible_columns, some_columns, text_columns-append, spaced_columns}
-use Rattle.text_normal.proofs.SpacedLaying.{all_join, words_read, words_room, tagged-append, words_fill}
-use Rattle.text_normal.proofs.SpacedLaying.{words_pushed, closed_spaced, words_moved}
+use Rattle.text_normal.proofs.SpacedLaying.{all_join, closed_spaced, some_columns, spaced_columns, tagged-append}
+use Rattle.text_normal.proofs.SpacedLaying.{text_columns-append, visible_columns, words_fill, words_moved, words_pushed}
+use Rattle.text_normal.proofs.SpacedLaying.{words_read, words_room}
 
 -- ---- columns
 
@@ -102,7 +101,7 @@ record FillsFresh {S : Type 0} (width : ℕ) (f : Filled S) (space : Option S) (
   marks : List (Mark S)
   whole : fold (add_unit width) (add_unit width f (piece space (lettered first tag))) (word_pieces tag words)
       ≡ pushed f marks
-  items : behind_items f.line marks ≡ tagged (first ++ spaced words) tag
+  items : after_items f.line marks ≡ tagged (first ++ spaced words) tag
 
 first_laid : {S : Type 0} (width : ℕ) (done : List (List (Mark S))) (space : Option S) (tag : S) (c : ℕ) (cs : List ℕ)
     → letters_columns (lettered (c ∷ cs) tag) ≤ width
@@ -137,7 +136,7 @@ fresh_filled width done space tag (c ∷ cs) words word all fits =
     record {
       marks = ms ++ rest.marks;
       whole = ap (λ g. fold (add_unit width) g (word_pieces tag words)) one.0 ∙ rest.whole;
-      items = items_behind ms rest.marks ∙ ap (λ i. marks_items ms ++ i) rest.items
+      items = items_after ms rest.marks ∙ ap (λ i. marks_items ms ++ i) rest.items
           ∙ ap (λ i. i ++ tagged (spaced words) tag)
           (unit_items [] space l (lettered cs tag) ∙ sym (lettered_items w tag))
           ∙ sym (tagged-append w (spaced words) tag);

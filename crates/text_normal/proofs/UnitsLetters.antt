@@ -1,15 +1,15 @@
 -- The letters of the units are those of the stretch, in order, without break points and characters without a width.
-use Rattle.std.proofs.Common.{◌≡◌, ◌≢◌, ℕ, ◌≤◌, Bool, true, false, not, ◌&&◌, cond, List, [], ◌∷◌, ◌++◌, Option, None}
-use Rattle.std.proofs.Common.{All, flat_map, filter, is_some, refl, sym, ap, ◌∙◌, append_assoc, get_or}
+use Rattle.std.proofs.Common.{◌≡◌, ◌≢◌, ◌≤◌, ◌&&◌, [], ◌∷◌, ◌++◌, ◌∙◌, All, Bool, List, None, Option, ap, append_assoc}
+use Rattle.std.proofs.Common.{cond, false, filter, flat_map, get_or, is_some, not, refl, sym, true, ℕ}
 use Rattle.std.proofs.lemmas.Bool.{cond-false}
-use Rattle.std.proofs.lemmas.List.Elements.{All-nil, All-cons, All-head, All-tail, All-same, All-weaker, All-filter}
+use Rattle.std.proofs.lemmas.List.Elements.{All-cons, All-filter, All-head, All-nil, All-same, All-tail, All-weaker}
 use Rattle.std.proofs.lemmas.List.Elements.{filter_passes}
 use Rattle.text_lines.specs.Columns.{columns_of, width_of}
-use Rattle.text_normal.specs.Units.{Letter, Piece, piece, has_columns, with_front, is_break_point, space_of}
-use Rattle.text_normal.specs.Units.{pieces_after, joining, joined, has_letters, units}
+use Rattle.text_normal.specs.Units.{Letter, Piece, has_columns, has_letters, is_break_point, joined, joining, piece}
+use Rattle.text_normal.specs.Units.{pieces_after, space_of, units, with_front}
 use Rattle.text_pieces.specs.Sources.{is_filled}
-use Rattle.text_normal.proofs.UnitsReading.{joining-with_columns, joining-without, pieces_after-letter}
-use Rattle.text_normal.proofs.UnitsReading.{pieces_after-break, pieces_after-filled}
+use Rattle.text_normal.proofs.UnitsReading.{joining-with_columns, joining-without, pieces_after-break}
+use Rattle.text_normal.proofs.UnitsReading.{pieces_after-filled, pieces_after-letter}
 
 -- whether a character of the stretch stands in a unit
 abbrev pub stands : {S : Type 0} → Letter S → Bool

@@ -1,14 +1,14 @@
 -- Each letter that stands in a unit is among the marks.
-use Rattle.std.proofs.Common.{◌≡◌, ℕ, ◌<◌, Bool, true, false, not, ◌&&◌, List, [], ◌∷◌, ◌++◌, Option, None, Some, map}
-use Rattle.std.proofs.Common.{flat_map, filter, is_some, unwrap_or, refl, sym, ap, subst, ◌∙◌, append_assoc, arith}
-use Rattle.std.proofs.Common.{nat_le}
+use Rattle.std.proofs.Common.{◌≡◌, ◌<◌, ◌&&◌, [], ◌∷◌, ◌++◌, ◌∙◌, Bool, List, None, Option, Some, ap, append_assoc}
+use Rattle.std.proofs.Common.{arith, false, filter, flat_map, is_some, map, nat_le, not, refl, subst, sym, true}
+use Rattle.std.proofs.Common.{unwrap_or, ℕ}
 use Rattle.std.proofs.lemmas.Bool.{cond-true, cond_both}
 use Rattle.std.proofs.lemmas.List.{map-append}
 use Rattle.std.proofs.lemmas.List.Elements.{filter-append}
 use Rattle.text_lines.specs.Columns.{columns_of, width_of}
 use Rattle.text_normal.specs.Units.{Letter, Piece, letters_columns, is_break_point, units}
-use Rattle.text_normal.specs.Layout.{Joint, opens, starts, inside, cuttable, Mark, mark, marked, unit_marks, marks}
-use Rattle.text_normal.specs.Layout.{marks_items, IsFullest, AreLinesOf, HasNoLayout, NeverFits}
+use Rattle.text_normal.specs.Layout.{AreLinesOf, HasNoLayout, IsFullest, Joint, Mark, NeverFits, cuttable, inside, mark}
+use Rattle.text_normal.specs.Layout.{marked, marks, marks_items, opens, starts, unit_marks}
 use Rattle.text_normal.specs.Greedy.{all_lines, add_units}
 use Rattle.text_normal.specs.Filling.{read_letters, nothing_read, lines_read}
 use Rattle.text_normal.proofs.UnitsLetters.{stands, letters_of, units_letters}

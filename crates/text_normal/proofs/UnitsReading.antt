@@ -1,10 +1,11 @@
 -- Reading letter by letter fills the lines as adding the units does.
-use Rattle.std.proofs.Common.{◌≡◌, ℕ, ◌+◌, Bool, true, false, cond, List, [], ◌∷◌, ◌++◌, Option, None, Some, filter}
-use Rattle.std.proofs.Common.{fold, is_some, refl, sym, ap, ◌∙◌, append_assoc, append-nil, arith, ltb-false, nat_lt}
+use Rattle.std.proofs.Common.{◌≡◌, ◌+◌, [], ◌∷◌, ◌++◌, ◌∙◌, Bool, List, None, Option, Some, ap, append-nil}
+use Rattle.std.proofs.Common.{append_assoc, arith, cond, false, filter, fold, is_some, ltb-false, nat_lt, refl, sym}
+use Rattle.std.proofs.Common.{true, ℕ}
 use Rattle.std.proofs.lemmas.Bool.{cond-true, cond-false}
 use Rattle.text_lines.specs.Columns.{columns_of}
-use Rattle.text_normal.specs.Units.{Letter, Piece, piece, letters_columns, has_columns, with_front, is_break_point}
-use Rattle.text_normal.specs.Units.{space_of, pieces_after, first_of, joining, joined, has_letters, units}
+use Rattle.text_normal.specs.Units.{Letter, Piece, first_of, has_columns, has_letters, is_break_point, joined, joining}
+use Rattle.text_normal.specs.Units.{letters_columns, piece, pieces_after, space_of, units, with_front}
 use Rattle.text_pieces.specs.Sources.{is_filled}
 use Rattle.text_normal.specs.Layout.{Mark}
 use Rattle.text_normal.specs.Greedy.{Filled, filled, all_lines, add_unit, add_units}

@@ -1,6 +1,6 @@
 -- Where words begin and end in a text.
-use Rattle.std.proofs.Common.{◌≡◌, ℕ, Bool, true, false, nat_le, List, [], ◌∷◌, ◌++◌, sym, ap, ◌∙◌, refl, subst}
-use Rattle.std.proofs.Common.{append_assoc, arith, length, ◌==◌, chars, IsUtf8, encode_utf8}
+use Rattle.std.proofs.Common.{◌≡◌, [], ◌∷◌, ◌++◌, ◌∙◌, ◌==◌, Bool, IsUtf8, List, ap, append_assoc, arith, chars}
+use Rattle.std.proofs.Common.{encode_utf8, false, length, nat_le, refl, subst, sym, true, ℕ}
 use Rattle.std.specs.Prelude.{All, None, Some, is_some, if◌then◌else◌}
 use Rattle.std.specs.Char.{IsScalar}
 use Rattle.std.proofs.lemmas.Bool.Decides.{nat_tests}
@@ -12,7 +12,7 @@ use Rattle.std.proofs.lemmas.Str.{chars-nil, chars-append, chars_past_char, IsUt
 use Rattle.text_lines.specs.Columns.{columns_of, width_of}
 use Rattle.text_pieces.specs.Sources.{is_break_point}
 use Rattle.text_normal.specs.Riders.{is_carrier, in_word_at}
-use Rattle.text_normal.specs.MarkedStates.{LeavesWord, BeginsWord, in_word_behind}
+use Rattle.text_normal.specs.MarkedStates.{LeavesWord, BeginsWord, in_word_after}
 use Rattle.text_normal.proofs.NormalReading.{width_read}
 
 pub leaves_start : (text : List ℕ) → LeavesWord text text
@@ -45,11 +45,11 @@ pub begins_nothing : (rest : List ℕ) → rest ≡ [] → BeginsWord (chars res
 begins_nothing rest none = let P : List ℕ → Type 0 = BeginsWord in subst P (sym (ap chars none ∙ chars-nil)) tt
 
 -- what the last character makes of it
-pub behind_last : (width : ℕ) (in_word : Bool) (rest before : List ℕ) (c : ℕ) → rest ≡ before ++ encode_utf8 c
+pub after_last : (width : ℕ) (in_word : Bool) (rest before : List ℕ) (c : ℕ) → rest ≡ before ++ encode_utf8 c
     → IsUtf8 before → IsScalar c
-    → in_word_behind width in_word (chars rest) ≡ in_word_at width (in_word_behind width in_word (chars before)) c
-behind_last width in_word rest before c split utf8 scalar =
-    ap (in_word_behind width in_word)
+    → in_word_after width in_word (chars rest) ≡ in_word_at width (in_word_after width in_word (chars before)) c
+after_last width in_word rest before c split utf8 scalar =
+    ap (in_word_after width in_word)
     (ap chars split ∙ chars-append before (encode_utf8 c) utf8 ∙ ap (λ l. chars before ++ l) (chars_of_one c scalar))
     ∙ fold-append (in_word_at width) in_word (chars before) (c ∷ [])
 

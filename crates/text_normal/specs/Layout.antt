@@ -1,6 +1,6 @@
 -- Layouts of a stretch of normal text on lines of at most a width, in columns.
-use Rattle.std.specs.Prelude.{◌≡◌, ℕ, ◌+◌, ◌<◌, ◌≤◌, Bool, true, false, nat_le, List, [], ◌∷◌, ◌++◌, Option, None, Some}
-use Rattle.std.specs.Prelude.{length, map, flat_map, All, IsTrue, ◌⊎◌, if◌then◌else◌}
+use Rattle.std.specs.Prelude.{◌≡◌, ◌+◌, ◌<◌, ◌≤◌, [], ◌∷◌, ◌++◌, ◌⊎◌, if◌then◌else◌, All, Bool, IsTrue, List, None}
+use Rattle.std.specs.Prelude.{Option, Some, false, flat_map, length, map, nat_le, true, ℕ}
 use Rattle.text_lines.specs.Columns.{width_of}
 use Rattle.text_lines.specs.Tagged.{Item, character}
 use Rattle.text_normal.specs.Units.{Letter, Piece, letters_columns, units}

@@ -2,7 +2,7 @@
 use Rattle.std.specs.Prelude.{◌≡◌, ℕ, Bool, true, false, List, [], ◌∷◌, ◌++◌, All, map, fold, chars}
 use Rattle.text_normal.specs.Units.{Letter, lettered}
 use Rattle.text_normal.specs.NormalStates.{HasRead, HasWider}
-use Rattle.text_pieces.specs.Cuts.{IsBehind}
+use Rattle.text_pieces.specs.Cuts.{IsAfter}
 use Rattle.text_pieces.specs.Sources.{Source, names}
 use Rattle.text_normal.specs.Riders.{Rider, ride, Carried, carry, is_carrier, in_word_at, has_wide_text}
 use Rattle.text_normal.specs.MarkedTags.{tag_seen}
@@ -31,12 +31,12 @@ BeginsWord (c ∷ cs) = is_carrier c ≡ true
 
 -- No marker rides on what stands in front of the rest.
 pub record LeavesWord (text rest : List ℕ) : Type 0 where
-  pub parts : IsBehind text rest
+  pub parts : IsAfter text rest
   pub bare : All (λ c. is_carrier c ≡ false) (chars parts.front)
 
 -- whether a marker after the text rides on its last word
-abbrev pub in_word_behind : ℕ → Bool → List ℕ → Bool
-in_word_behind width in_word cs = fold (in_word_at width) in_word cs
+abbrev pub in_word_after : ℕ → Bool → List ℕ → Bool
+in_word_after width in_word cs = fold (in_word_at width) in_word cs
 
 -- what is read of a text that begins with a word, on which markers ride that waited
 abbrev pub words_letters : {S : Type 0} → List ℕ → Rider S → List (List ℕ) → List (Letter (Rider S))

@@ -1,12 +1,13 @@
 -- What contracts see of a `NormalText`: how its lines, its white space and its word follow from what was read.
-use Rattle.std.specs.Prelude.{◌≡◌, ◌≢◌, length, encode_utf8, ℕ, ◌+◌, ◌<◌, ◌≤◌, Bool, true, false, ◌||◌, nat_le, List}
-use Rattle.std.specs.Prelude.{[], ◌∷◌, ◌++◌, Option, None, Some, map, fold, is_some, All, IsTrue, if◌then◌else◌, chars}
+use Rattle.std.specs.Prelude.{◌≡◌, ◌≢◌, ◌+◌, ◌<◌, ◌≤◌, ◌||◌, [], ◌∷◌, ◌++◌, if◌then◌else◌, All, Bool, IsTrue, List}
+use Rattle.std.specs.Prelude.{None, Option, Some, chars, encode_utf8, false, fold, is_some, length, map, nat_le, true}
+use Rattle.std.specs.Prelude.{ℕ}
 use Rattle.std.specs.Option.{option_map}
 use Rattle.text_lines.specs.Columns.{columns_of, width_of}
 use Rattle.text_lines.specs.Tagged.{Item, character, line_items, line_columns, tagged, IsJoined}
-use Rattle.text_normal.specs.Units.{Letter, Piece, piece, lettered, is_break_point, is_white_space, first_of}
-use Rattle.text_normal.specs.Units.{has_columns, units}
-use Rattle.text_pieces.specs.Cuts.{IsBehind}
+use Rattle.text_normal.specs.Units.{Letter, Piece, first_of, has_columns, is_break_point, is_white_space, lettered}
+use Rattle.text_normal.specs.Units.{piece, units}
+use Rattle.text_pieces.specs.Cuts.{IsAfter}
 use Rattle.text_pieces.specs.Sources.{is_filled}
 use Rattle.text_normal.specs.Layout.{Mark, opens, inside, marked, columns, marks_items, gap}
 use Rattle.text_normal.specs.Greedy.{Filled, filled, all_lines, add_unit, add_units, add_marks, add_mark}
@@ -26,9 +27,9 @@ space_columns None = 0
 space_columns (Some tag) = 1
 
 -- the space after what stands on a line: none at its beginning
-abbrev pub space_behind : {S : Type 0} → List (Item S) → Option S → List (Item S)
-space_behind [] space = []
-space_behind (item ∷ items) space = space_items space
+abbrev pub space_after : {S : Type 0} → List (Item S) → Option S → List (Item S)
+space_after [] space = []
+space_after (item ∷ items) space = space_items space
 
 -- the line at hand, or a fresh one where so many columns more don't go on it
 abbrev pub with_room : {S : Type 0} → ℕ → ℕ → Filled S → Filled S
@@ -156,7 +157,7 @@ pub record JoinsWord {T : Type 0} (block : NormalText T) (code : ℕ) : Type 0 w
 
 -- Such characters stand in front of what follows.
 pub record RunsTo {T : Type 0} (block : NormalText T) (text rest : List ℕ) : Type 0 where
-  pub parts : IsBehind text rest
+  pub parts : IsAfter text rest
   pub joins : All (JoinsWord block) (chars parts.front)
 
 -- The block reads what stands in front of the rest of the text.
@@ -175,12 +176,12 @@ pub record ReadsRun {T S : Type 0} (seen : T → S) (old new : NormalText T) (ru
 
 -- Characters of so many columns are a whole word: none is at hand, and they have columns in front of a break point.
 pub record EndsWord {T S : Type 0} (seen : T → S) (block : NormalText T) (columns : ℕ) (rest : List ℕ) (code : ℕ)
-    (behind : List ℕ) : Type 0 where
+    (trailing : List ℕ) : Type 0 where
   pub some : columns ≢ 0
   pub none_held : line_items seen block.word ≡ []
   pub is_break : is_break_point code ≡ true
-  pub whole : rest ≡ encode_utf8 code ++ behind
-  pub shorter : length behind < length rest
+  pub whole : rest ≡ encode_utf8 code ++ trailing
+  pub shorter : length trailing < length rest
 
 -- Where no word is at hand, the characters are laid as one, and the break point after them is read.
 pub record LaysWord {T S : Type 0} (seen : T → S) (old new : NormalText T) (run : List ℕ) (code : ℕ)

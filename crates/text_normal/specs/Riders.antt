@@ -1,7 +1,7 @@
 -- Markers in normal text. A marker rides on a word: it is a letter of no columns whose tag is a note of its name, so
 -- that units and layouts need not know of markers.
-use Rattle.std.specs.Prelude.{ℕ, Bool, false, not, ◌&&◌, ◌||◌, nat_le, nat_lt, List, [], ◌∷◌, ◌++◌, map, fold, is_some}
-use Rattle.std.specs.Prelude.{if◌then◌else◌}
+use Rattle.std.specs.Prelude.{◌&&◌, ◌||◌, [], ◌∷◌, ◌++◌, if◌then◌else◌, Bool, List, false, fold, is_some, map, nat_le}
+use Rattle.std.specs.Prelude.{nat_lt, not, ℕ}
 use Rattle.text_lines.specs.Columns.{columns_of, width_of}
 use Rattle.text_lines.specs.Tagged.{Item, character, marker}
 use Rattle.text_pieces.specs.Sources.{Source, letter, fragment, is_break_point}

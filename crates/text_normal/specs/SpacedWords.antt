@@ -1,6 +1,6 @@
 -- Words of visible ASCII that stand after single spaces.
 use Rattle.std.specs.Prelude.{◌≡◌, ◌≢◌, ℕ, suc, ◌≤◌, List, [], ◌∷◌, ◌++◌, length, All, chars, ◌⊎◌}
-use Rattle.text_pieces.specs.Cuts.{IsBehind}
+use Rattle.text_pieces.specs.Cuts.{IsAfter}
 use Rattle.text_lines.specs.Columns.{text_columns}
 
 -- visible ASCII
@@ -24,14 +24,14 @@ closed (w ∷ ws) = (w ++ 0x20 ∷ []) ++ closed ws
 
 -- Visible ASCII of so many columns stands in front of a text, at most as many as there is room for.
 pub record HasRun (text rest : List ℕ) (columns room : ℕ) : Type 0 where
-  pub parts : IsBehind text rest
+  pub parts : IsAfter text rest
   pub visible : All IsVisible (chars parts.front)
   pub counted : columns ≡ length (chars parts.front)
   pub fits : columns ≤ room
 
 -- A space and a word of so many columns stand in front of a text, at most as many as there is room for.
 pub record HasWord (text rest : List ℕ) (columns room : ℕ) : Type 0 where
-  pub parts : IsBehind text rest
+  pub parts : IsAfter text rest
   pub word : List ℕ
   pub is_word : IsWord word
   pub whole : chars parts.front ≡ 0x20 ∷ word
@@ -41,7 +41,7 @@ pub record HasWord (text rest : List ℕ) (columns room : ℕ) : Type 0 where
 -- Words that stand after a space each, of so many columns, stand in front of a text, at most as many as there is room
 -- for.
 pub record HasWords (text rest : List ℕ) (columns room : ℕ) : Type 0 where
-  pub parts : IsBehind text rest
+  pub parts : IsAfter text rest
   pub words : List (List ℕ)
   pub are_words : All IsWord words
   pub whole : chars parts.front ≡ spaced words

@@ -1,7 +1,7 @@
 -- The words of a stretch of normal text, and what stands between them (CSS Text, 4.1.1 and 5.1, as the
 -- renderer uses it). A stretch is a list of characters with their tags.
-use Rattle.std.specs.Prelude.{ℕ, ◌+◌, Bool, nat_lt, List, [], ◌∷◌, ◌++◌, Option, None, Some, is_some, filter, map}
-use Rattle.std.specs.Prelude.{if◌then◌else◌}
+use Rattle.std.specs.Prelude.{◌+◌, [], ◌∷◌, ◌++◌, if◌then◌else◌, Bool, List, None, Option, Some, filter, is_some, map}
+use Rattle.std.specs.Prelude.{nat_lt, ℕ}
 use Rattle.text_lines.specs.Columns.{columns_of, width_of}
 pub use Rattle.text_pieces.specs.Sources.{is_white_space, is_break_point, is_filled}
 

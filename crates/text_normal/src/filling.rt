@@ -1,10 +1,10 @@
-ghost use Rattle.std.specs.Prelude.{◌≡◌, ◌≢◌, ◌≤◌, ℕ, Bool, ◌+◌, ◌||◌, nat_le, [], ◌∷◌, ◌++◌, map, All, option_copied};
-ghost use Rattle.std.specs.Prelude.{chars, string_bytes, IfOk, IfErr, OnOk, List, IsTrue};
+ghost use Rattle.std.specs.Prelude.{◌≡◌, ◌≢◌, ◌≤◌, ◌+◌, ◌||◌, [], ◌∷◌, ◌++◌, All, Bool, IfErr, IfOk, IsTrue, List};
+ghost use Rattle.std.specs.Prelude.{OnOk, chars, map, nat_le, option_copied, string_bytes, ℕ};
 ghost use Rattle.std.specs.Option.{option_map};
 ghost use Rattle.text_lines.specs.Columns.{text_columns};
 ghost use Rattle.text_lines.specs.Tagged.{line_items, element_items, line_columns, tagged, IsJoined};
 ghost use Rattle.text_normal.specs.SpacedWords.{EndsInSpace};
-ghost use Rattle.text_normal.specs.NormalStates.{space_behind, space_columns};
+ghost use Rattle.text_normal.specs.NormalStates.{space_after, space_columns};
 
 use crate::spaced_words::without_last;
 use std::alloc::{AllocError, Global};
@@ -23,8 +23,8 @@ pub(crate) struct Filling<T> {
 impl<T: EqualCopy + Drop> Filling<T> {
     ghost use Rattle.text_normal.specs.Layout.{marks_items};
     ghost use Rattle.text_normal.specs.Greedy.{Filled, filled, all_lines};
-    ghost use Rattle.text_normal.specs.NormalStates.{HoldsLines, Lays, LaysUnit, LaysWhole, LaysCut, Cuts, LaysWords};
-    ghost use Rattle.text_normal.specs.NormalStates.{TakesMore, GoesOnWith, with_room};
+    ghost use Rattle.text_normal.specs.NormalStates.{Cuts, GoesOnWith, HoldsLines, Lays, LaysCut, LaysUnit, LaysWhole};
+    ghost use Rattle.text_normal.specs.NormalStates.{LaysWords, TakesMore, with_room};
 
     pub(crate) fn new(alloc: Global, width: usize, allow_overflow: bool) -> Filling<T>
         ensures { HoldsLines T.seen width allow_overflow result (filled [] []) }
@@ -155,7 +155,7 @@ impl<T: EqualCopy + Drop> Filling<T> {
         ensures kinds { IfErr result (λ e. e ≡ BlockError.Memory) }
     {
         self.make_room(space_columns(space), columns)?;
-        push_run_behind(&mut self.line, space, run, columns, tag)?;
+        push_run_after(&mut self.line, space, run, columns, tag)?;
         Ok(())
     }
 
@@ -173,7 +173,7 @@ impl<T: EqualCopy + Drop> Filling<T> {
         ensures kinds { IfErr result (λ e. e ≡ BlockError.Memory) }
     {
         self.make_room(space_columns(space), word.width())?;
-        push_behind(&mut self.line, space, word)?;
+        push_after(&mut self.line, space, word)?;
         Ok(())
     }
 
@@ -278,13 +278,13 @@ fn space_columns<T: EqualCopy>(space: Option<&T>) -> usize
 }
 
 /// Moves a word to a line's end, after a space of the given tag where the line has text.
-fn push_behind<T: EqualCopy + Drop>(
+fn push_after<T: EqualCopy + Drop>(
     line: &mut TaggedLine<T>,
     space: Option<&T>,
     word: &mut TaggedLine<T>,
 ) -> Result<(), AllocError>
     ensures pushed { OnOk result (line_items T.seen line.new ≡ line_items T.seen line.old
-        ++ space_behind (line_items T.seen line.old) (option_map T.seen (option_copied space.entry))
+        ++ space_after (line_items T.seen line.old) (option_map T.seen (option_copied space.entry))
         ++ line_items T.seen word.old) }
     ensures joined { IsJoined T.seen line.old → IsJoined T.seen line.new }
 {
@@ -293,7 +293,7 @@ fn push_behind<T: EqualCopy + Drop>(
 }
 
 /// Adds a text, which has that many columns, at a line's end, after a space of the given tag where the line has text.
-fn push_run_behind<T: EqualCopy + Drop>(
+fn push_run_after<T: EqualCopy + Drop>(
     line: &mut TaggedLine<T>,
     space: Option<&T>,
     run: &str,
@@ -302,7 +302,7 @@ fn push_run_behind<T: EqualCopy + Drop>(
 ) -> Result<(), AllocError>
     requires { columns ≡ text_columns (chars run.now) }
     ensures pushed { OnOk result (line_items T.seen line.new ≡ line_items T.seen line.old
-        ++ space_behind (line_items T.seen line.old) (option_map T.seen (option_copied space.entry))
+        ++ space_after (line_items T.seen line.old) (option_map T.seen (option_copied space.entry))
         ++ tagged (chars run.now) (T.seen tag.now)) }
     ensures joined { IsJoined T.seen line.old → IsJoined T.seen line.new }
 {
@@ -316,7 +316,7 @@ fn push_space<T: EqualCopy + Drop>(
     space: Option<&T>,
 ) -> Result<(), AllocError>
     ensures pushed { OnOk result (line_items T.seen line.new ≡ line_items T.seen line.old
-        ++ space_behind (line_items T.seen line.old) (option_map T.seen (option_copied space.entry))) }
+        ++ space_after (line_items T.seen line.old) (option_map T.seen (option_copied space.entry))) }
     ensures joined { IsJoined T.seen line.old → IsJoined T.seen line.new }
 {
     if line.is_empty() {

@@ -42,4 +42,6 @@ mod spaced_words;
 mod word_ends;
 
 pub use normal_lines::{lay_normal, lay_owned};
-pub use spaced_words::{ ended, is_visible_ascii, line_before_space, without_last, words_before_space, words_in_front, };
+pub use spaced_words::{
+    ended, is_visible_ascii, line_before_space, without_last, words_before_space, words_in_front,
+};

@@ -1,13 +1,15 @@
-ghost use Rattle.std.specs.Prelude.{◌≡◌, ◌≢◌, ◌⊎◌, ℕ, Bool, true, false, ◌||◌, nat_le, List, [], ◌∷◌, ◌++◌, map, chars};
-ghost use Rattle.std.specs.Prelude.{string_bytes, IsTrue, All, length, ◌<◌, ◌≤◌, IfOk, IfErr, IfSome};
-ghost use Rattle.std.specs.Prelude.{IsUtf8, encode_utf8, OnOk};
+ghost use Rattle.std.specs.Prelude.{◌≡◌, ◌≢◌, ◌⊎◌, ◌||◌, [], ◌∷◌, ◌++◌, ◌<◌, ◌≤◌, All, Bool, IfErr, IfOk, IfSome};
+ghost use Rattle.std.specs.Prelude.{IsTrue, IsUtf8, List, OnOk, chars, encode_utf8, false, length, map, nat_le};
+ghost use Rattle.std.specs.Prelude.{string_bytes, true, ℕ};
 ghost use Rattle.std.specs.Char.{IsScalar};
 ghost use Rattle.text_lines.specs.Columns.{text_columns};
 ghost use Rattle.text_lines.specs.Tagged.{line_items, IsJoined};
 ghost use Rattle.text_normal.specs.Units.{is_break_point};
 
 use crate::filling::Filling;
-use crate::spaced_words::{ended, is_visible_ascii, line_before_space, words_before_space, words_in_front};
+use crate::spaced_words::{
+    ended, is_visible_ascii, line_before_space, words_before_space, words_in_front,
+};
 use std::alloc::{AllocError, Global};
 use text_lines::{Columns, EqualCopy, TaggedLine, UnicodeColumns, columns_of};
 use text_pieces::{BlockError, first_char, is_break_point, split_before};
@@ -26,14 +28,13 @@ pub(crate) struct NormalText<T> {
 }
 
 impl<T: EqualCopy + Drop> NormalText<T> {
-    ghost use Rattle.text_normal.specs.Units.{Letter, lettered};
+    ghost use Rattle.text_normal.specs.Units.{Letter, lettered, units};
     ghost use Rattle.text_normal.specs.Layout.{marks_items};
-    ghost use Rattle.text_normal.specs.Units.{units};
     ghost use Rattle.text_normal.specs.Greedy.{all_lines, add_units};
-    ghost use Rattle.text_normal.specs.NormalStates.{HasRead, HasWider, Moves, MeetsWider, Reads};
-    ghost use Rattle.text_normal.specs.NormalStates.{ReadsFront, JoinsWord, RunsTo, ReadsRun, EndsWord, LaysWord};
-    ghost use Rattle.text_normal.specs.NormalStates.{AwaitsWord, FillsLine, FillsOn, EndsAs, end_read, space_read};
-    ghost use Rattle.text_normal.specs.NormalStates.{word_read, lay_read};
+    ghost use Rattle.text_normal.specs.NormalStates.{AwaitsWord, EndsAs, EndsWord, FillsLine, FillsOn, HasRead};
+    ghost use Rattle.text_normal.specs.NormalStates.{HasWider, JoinsWord, LaysWord, MeetsWider, Moves, Reads};
+    ghost use Rattle.text_normal.specs.NormalStates.{ReadsFront, ReadsRun, RunsTo, end_read, lay_read, space_read};
+    ghost use Rattle.text_normal.specs.NormalStates.{word_read};
 
     /// No text yet. With `allow_overflow` a character wider than the width stands alone on a line.
     pub(crate) fn new(alloc: Global, width: usize, allow_overflow: bool) -> NormalText<T>
@@ -91,7 +92,7 @@ impl<T: EqualCopy + Drop> NormalText<T> {
         if text.as_str().starts_with(' ') {
             return self.add_spaced(text, tag);
         }
-        self.add_behind(text.as_str(), after, &tag)
+        self.add_after(text.as_str(), after, &tag)
     }
 
     /// The columns of a text but for the space at its end, where it is a line's words and that space, and no word is at
@@ -160,7 +161,7 @@ impl<T: EqualCopy + Drop> NormalText<T> {
     }
 
     /// Adds a text in which `after` follows the characters in front that join the word at hand.
-    fn add_behind(&mut self, text: &str, after: &str, tag: &T) -> Result<(), BlockError>
+    fn add_after(&mut self, text: &str, after: &str, tag: &T) -> Result<(), BlockError>
         requires { RunsTo self.old text.now after.now }
         ensures kinds { IfErr result (λ e. (e ≡ BlockError.TooNarrow) ⊎ (e ≡ BlockError.Memory)) }
         ensures read { OnOk result (Reads T.seen self.old self.new (lettered (chars text.now) (T.seen tag.now))) }
@@ -264,14 +265,14 @@ impl<T: EqualCopy + Drop> NormalText<T> {
         }
         let (columns, rest) = words_in_front(text, self.lines.room());
         let (words, rest) = split_before(text, rest);
-        let Some((c, behind)) = first_char(rest) else {
+        let Some((c, trailing)) = first_char(rest) else {
             return Ok(after);
         };
         if columns == 0 || c != ' ' {
             return Ok(after);
         }
         self.lines.push_words(words, columns, tag)?;
-        Ok(behind)
+        Ok(trailing)
     }
 
     /// Whether no word is at hand, and a space with that tag is to stand before the next.
@@ -296,9 +297,9 @@ impl<T: EqualCopy + Drop> NormalText<T> {
     {
         let columns = columns_of(run);
         match self.end_of_word(columns, rest) {
-            Some((c, behind)) => {
+            Some((c, trailing)) => {
                 self.add_word(run, columns, c, tag)?;
-                Ok(self.add_words(c, rest, behind, tag)?)
+                Ok(self.add_words(c, rest, trailing, tag)?)
             }
             None => {
                 self.word.push_counted(run, columns, tag)?;
@@ -316,9 +317,9 @@ impl<T: EqualCopy + Drop> NormalText<T> {
         if columns == 0 || !self.word.is_empty() {
             return None;
         }
-        let (c, behind) = first_char(rest)?;
+        let (c, trailing) = first_char(rest)?;
         if is_break_point(c) {
-            Some((c, behind))
+            Some((c, trailing))
         } else {
             None
         }
@@ -433,7 +434,7 @@ impl<T: EqualCopy + Drop> NormalText<T> {
     }
 
     /// The lines of the text with one more after it, which is moved where it can be.
-    pub(crate) fn into_lines_behind(
+    pub(crate) fn into_lines_after(
         mut self,
         text: String,
         tag: T,

@@ -1,6 +1,5 @@
 //! The lines of normal text, with its markers.
-ghost use Rattle.std.specs.Prelude.{◌≡◌, ◌⊎◌, ℕ, Bool, true, false, not, ◌||◌, List, ◌++◌, map};
-ghost use Rattle.std.specs.Prelude.{All, IfOk, IfErr, OnOk};
+ghost use Rattle.std.specs.Prelude.{◌≡◌, ◌⊎◌, ◌||◌, ◌++◌, All, Bool, IfErr, IfOk, List, OnOk, false, map, not, true, ℕ};
 ghost use Rattle.text_lines.specs.Tagged.{line_items, IsJoined};
 ghost use Rattle.text_pieces.specs.Sources.{names, sources_of, piece_sources, text_sources};
 ghost use Rattle.text_normal.specs.Riders.{normal_lines, normal_waiting, has_wide_text};
@@ -228,7 +227,7 @@ fn end_with_text<T: EqualCopy + Drop>(
         main_tag,
         ..
     } = last;
-    text.into_lines_behind(characters, main_tag)
+    text.into_lines_after(characters, main_tag)
 }
 
 /// Adds the texts of the pieces, which are taken.

@@ -1,6 +1,5 @@
 //! Lines of text with markers on it, shown: markers in place of the letters that stood for them.
-ghost use Rattle.std.specs.Prelude.{◌≡◌, [], ◌∷◌, ◌++◌, map, chars, string_bytes, All, IfOk, OnOk};
-ghost use Rattle.std.specs.Prelude.{if◌then◌else◌};
+ghost use Rattle.std.specs.Prelude.{◌≡◌, [], ◌∷◌, ◌++◌, if◌then◌else◌, All, IfOk, OnOk, chars, map, string_bytes};
 ghost use Rattle.text_lines.specs.Tagged.{line_items, element_items, tagged, marker, IsJoined};
 ghost use Rattle.text_pieces.specs.Items.{has_text};
 ghost use Rattle.text_normal.specs.Riders.{shown_item, settled_lines, settled_rest};

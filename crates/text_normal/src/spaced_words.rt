@@ -1,8 +1,8 @@
 //! Words of visible ASCII that stand after single spaces.
-ghost use Rattle.std.specs.Prelude.{◌≡◌, ◌≢◌, ◌↔◌, ◌≤◌, ℕ, List, [], ◌∷◌, ◌++◌, chars, string_bytes, IfOk, IfSome};
-ghost use Rattle.std.specs.Prelude.{IsTrue, IsUtf8};
-ghost use Rattle.text_normal.specs.SpacedWords.{HasRun, HasWord, HasWords, IsWordsAndSpace, IsLineAndSpace};
-ghost use Rattle.text_normal.specs.SpacedWords.{EndsVisibly, IsEnded};
+ghost use Rattle.std.specs.Prelude.{◌≡◌, ◌≢◌, ◌↔◌, ◌≤◌, [], ◌∷◌, ◌++◌, IfOk, IfSome, IsTrue, IsUtf8, List, chars};
+ghost use Rattle.std.specs.Prelude.{string_bytes, ℕ};
+ghost use Rattle.text_normal.specs.SpacedWords.{EndsVisibly, HasRun, HasWord, HasWords, IsEnded, IsLineAndSpace};
+ghost use Rattle.text_normal.specs.SpacedWords.{IsWordsAndSpace};
 
 use std::alloc::AllocError;
 use text_pieces::{first_char, last_char};
@@ -15,9 +15,9 @@ pub fn words_in_front(text: &str, room: usize) -> (usize, &str)
 {
     let mut columns = 0usize;
     let mut rest = text;
-    while let Some((more, behind)) = word_in_front(rest, room - columns) {
+    while let Some((more, trailing)) = word_in_front(rest, room - columns) {
         columns += more;
-        rest = behind;
+        rest = trailing;
     }
     (columns, rest)
 }
@@ -50,8 +50,8 @@ pub fn line_before_space(text: &str, room: usize) -> Option<usize>
     if text.len().saturating_sub(1) > room {
         return None;
     }
-    let (first, behind) = run_in_front(text, room);
-    let (more, rest) = words_in_front(behind, room - first);
+    let (first, trailing) = run_in_front(text, room);
+    let (more, rest) = words_in_front(trailing, room - first);
     if first > 0 && is_space(rest) {
         Some(first + more)
     } else {
@@ -109,8 +109,8 @@ fn word_in_front(text: &str, room: usize) -> Option<(usize, &str)>
     if room == 0 {
         return None;
     }
-    let (space, behind) = first_char(text)?;
-    let (columns, rest) = run_in_front(behind, room - 1);
+    let (space, trailing) = first_char(text)?;
+    let (columns, rest) = run_in_front(trailing, room - 1);
     let (next, _) = first_char(rest)?;
     if space != ' ' || columns == 0 || next != ' ' {
         return None;
@@ -125,12 +125,12 @@ fn run_in_front(text: &str, room: usize) -> (usize, &str)
 {
     let mut columns = 0usize;
     let mut rest = text;
-    while let Some((c, behind)) = first_char(rest) {
+    while let Some((c, trailing)) = first_char(rest) {
         if columns == room || !is_visible_ascii(c) {
             return (columns, rest);
         }
         columns += 1;
-        rest = behind;
+        rest = trailing;
     }
     (columns, rest)
 }

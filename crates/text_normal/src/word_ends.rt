@@ -1,7 +1,7 @@
 //! Where words begin and end in a text.
 ghost use Rattle.std.specs.Prelude.{◌≡◌, ◌<◌, chars};
 ghost use Rattle.text_normal.specs.Riders.{is_carrier};
-ghost use Rattle.text_normal.specs.MarkedStates.{LeavesWord, BeginsWord, in_word_behind};
+ghost use Rattle.text_normal.specs.MarkedStates.{LeavesWord, BeginsWord, in_word_after};
 
 use text_lines::{Columns, UnicodeColumns};
 use text_pieces::{first_char, is_break_point, last_char};
@@ -30,7 +30,7 @@ pub(crate) fn from_word(text: &str) -> &str
 
 /// Whether a marker after the text rides on its last word, or on that before the text.
 pub(crate) fn ends_in_word(text: &str, width: usize, in_word: bool) -> bool
-    ensures { result ≡ in_word_behind width in_word (chars text.now) }
+    ensures { result ≡ in_word_after width in_word (chars text.now) }
 {
     let mut rest = text;
     while let Some((before, c)) = last_char(rest) {

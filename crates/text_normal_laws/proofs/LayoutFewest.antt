@@ -1,11 +1,11 @@
 -- The fullest layout has the fewest lines and is the only one.
-use Rattle.std.proofs.Common.{◌≡◌, ℕ, suc, ◌+◌, ◌≤◌, ◌⊎◌, inl, inr, Bool, true, false, List, [], ◌∷◌, ◌++◌, length}
-use Rattle.std.proofs.Common.{refl, sym, ap, subst, ◌∙◌, arith, le_antisymm, length-append}
+use Rattle.std.proofs.Common.{◌≡◌, ◌+◌, ◌≤◌, ◌⊎◌, [], ◌∷◌, ◌++◌, ◌∙◌, Bool, List, ap, arith, false, inl, inr}
+use Rattle.std.proofs.Common.{le_antisymm, length, length-append, refl, subst, suc, sym, true, ℕ}
 use Rattle.std.specs.List.{AllByRecursion}
 use Rattle.std.proofs.lemmas.List.Elements.{All-from_recursion, recursion_from_All}
 use Rattle.text_normal.specs.Layout.{Mark, columns, IsLine, IsAllowed, IsLayout, IsFullest, joined_lines}
-use Rattle.text_normal.proofs.LayoutSplits.{IsLonger, IsWithin, longer_or_within, same_fronts, following_columns-append}
-use Rattle.text_normal.proofs.LayoutSplits.{Follow, run_from_allowed, CanBegin, lines_begin}
+use Rattle.text_normal.proofs.LayoutSplits.{CanBegin, Follow, IsLonger, IsWithin, following_columns-append, lines_begin}
+use Rattle.text_normal.proofs.LayoutSplits.{longer_or_within, run_from_allowed, same_fronts}
 
 -- ---- what is left of a layout
 

@@ -1,23 +1,22 @@
 -- No marker of normal text is lost.
-use Rattle.std.proofs.Common.{◌≡◌, ℕ, Bool, true, false, not, ◌&&◌, nat_le, List, [], ◌∷◌, ◌++◌, map, flat_map, sym, ap}
-use Rattle.std.proofs.Common.{◌∙◌, refl, subst, append-nil, append_assoc, None, Some, inl}
+use Rattle.std.proofs.Common.{◌≡◌, ◌&&◌, [], ◌∷◌, ◌++◌, ◌∙◌, Bool, List, None, Some, ap, append-nil, append_assoc}
+use Rattle.std.proofs.Common.{false, flat_map, inl, map, nat_le, not, refl, subst, sym, true, ℕ}
 use Rattle.std.specs.Prelude.{Option, fold, filter, is_some, cond, if◌then◌else◌}
 use Rattle.std.proofs.lemmas.Bool.{false≢true}
 use Rattle.unicode_width.proofs.Computing.{unicode_width}
 use Rattle.text_lines.specs.Columns.{columns_of, width_of}
 use Rattle.text_lines.specs.Tagged.{Item, character, marker}
-use Rattle.text_pieces.specs.Sources.{Source, letter, fragment, is_break_point, is_white_space}
-use Rattle.text_pieces.specs.Sources.{names_of}
+use Rattle.text_pieces.specs.Sources.{Source, fragment, is_break_point, is_white_space, letter, names_of}
 use Rattle.text_pieces.specs.Items.{has_text, markers_of}
 use Rattle.text_pieces.proofs.ElementLemmas.{markers_of-append}
-use Rattle.text_normal.specs.Units.{Letter, Piece, piece, units, pieces_after, with_front, space_of, first_of, joining}
-use Rattle.text_normal.specs.Units.{joined, has_columns, has_letters, letters_columns}
-use Rattle.text_normal.specs.Layout.{Joint, opens, starts, inside, cuttable, Mark, mark, marked, unit_marks, gap_items}
-use Rattle.text_normal.specs.Layout.{following_items, marks_items, joined_lines}
+use Rattle.text_normal.specs.Units.{Letter, Piece, first_of, has_columns, has_letters, joined, joining, letters_columns}
+use Rattle.text_normal.specs.Units.{piece, pieces_after, space_of, units, with_front}
+use Rattle.text_normal.specs.Layout.{Joint, Mark, cuttable, following_items, gap_items, inside, joined_lines, mark}
+use Rattle.text_normal.specs.Layout.{marked, marks_items, opens, starts, unit_marks}
 use Rattle.text_normal.specs.Greedy.{all_lines, add_units}
-use Rattle.text_normal.specs.Riders.{Rider, plain, note, ride, plain_letter, Carried, nothing_carried, carried, carry}
-use Rattle.text_normal.specs.Riders.{is_carrier, in_word_at, shown_item, shown_lines, settled_lines, settled_rest}
-use Rattle.text_normal.specs.Riders.{normal_lines, normal_waiting}
+use Rattle.text_normal.specs.Riders.{Carried, Rider, carried, carry, in_word_at, is_carrier, normal_lines}
+use Rattle.text_normal.specs.Riders.{normal_waiting, note, nothing_carried, plain, plain_letter, ride, settled_lines}
+use Rattle.text_normal.specs.Riders.{settled_rest, shown_item, shown_lines}
 use Rattle.text_normal.proofs.LayoutFilling.{filled_is_fullest, letters_there}
 use Rattle.text_normal.proofs.UnitsLetters.{stands, letters_of, units_letters, units_have_letters}
 

@@ -1,6 +1,6 @@
 -- Each character of normal text that is shown stands on its lines once, in order.
-use Rattle.std.proofs.Common.{◌≡◌, ℕ, Bool, true, false, List, [], ◌∷◌, ◌++◌, map, flat_map, filter}
-use Rattle.std.proofs.Common.{cond, sym, ap, ◌∙◌, refl, append-nil, append_assoc, Some, None, inl}
+use Rattle.std.proofs.Common.{◌≡◌, [], ◌∷◌, ◌++◌, ◌∙◌, Bool, List, None, Some, ap, append-nil, append_assoc, cond}
+use Rattle.std.proofs.Common.{false, filter, flat_map, inl, map, refl, sym, true, ℕ}
 use Rattle.std.specs.Prelude.{fold, if◌then◌else◌}
 use Rattle.std.proofs.lemmas.Bool.{cond-false}
 use Rattle.std.proofs.lemmas.List.Elements.{filter-append}
@@ -9,12 +9,12 @@ use Rattle.text_pieces.specs.Sources.{Source, letter, fragment}
 use Rattle.text_pieces.specs.Items.{has_text}
 use Rattle.text_pieces.proofs.ItemColumns.{characters-append, no_characters}
 use Rattle.text_normal.specs.Units.{Letter, units}
-use Rattle.text_normal.specs.Layout.{Joint, opens, starts, inside, cuttable, Mark, gap_items}
-use Rattle.text_normal.specs.Layout.{following_items, marks_items, joined_lines}
+use Rattle.text_normal.specs.Layout.{Joint, Mark, cuttable, following_items, gap_items, inside, joined_lines}
+use Rattle.text_normal.specs.Layout.{marks_items, opens, starts}
 use Rattle.text_normal.specs.Greedy.{all_lines, add_units}
 use Rattle.text_normal.specs.Letters.{is_shown, codes_of}
-use Rattle.text_normal.specs.Riders.{Rider, plain, note, ride, plain_letter, Carried, nothing_carried, carried, carry}
-use Rattle.text_normal.specs.Riders.{is_carrier, in_word_at, shown_item, shown_lines, settled_lines, normal_lines}
+use Rattle.text_normal.specs.Riders.{Carried, Rider, carried, carry, in_word_at, is_carrier, normal_lines, note}
+use Rattle.text_normal.specs.Riders.{nothing_carried, plain, plain_letter, ride, settled_lines, shown_item, shown_lines}
 use Rattle.text_normal.proofs.LayoutFilling.{filled_is_fullest, letters_there}
 use Rattle.text_normal.proofs.UnitsLetters.{stands, units_letters, units_have_letters}
 use Rattle.text_normal_laws.proofs.MarkedKept.{letters_in, letters_in-append, units_marked}

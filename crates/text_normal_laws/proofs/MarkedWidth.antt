@@ -1,6 +1,6 @@
 -- Lines of normal text with its markers keep the width.
-use Rattle.std.proofs.Common.{◌≡◌, ℕ, ◌≤◌, Bool, true, false, not, ◌&&◌, ◌||◌, nat_le, nat_lt, List, [], ◌∷◌, ◌++◌, map}
-use Rattle.std.proofs.Common.{ap, ◌∙◌, refl, subst, arith}
+use Rattle.std.proofs.Common.{◌≡◌, ◌≤◌, ◌&&◌, ◌||◌, [], ◌∷◌, ◌++◌, ◌∙◌, Bool, List, ap, arith, false, map, nat_le}
+use Rattle.std.proofs.Common.{nat_lt, not, refl, subst, true, ℕ}
 use Rattle.std.specs.Prelude.{All, IsTrue, fold, if◌then◌else◌}
 use Rattle.std.proofs.lemmas.Bool.Decides.{nat_tests}
 use Rattle.std.proofs.lemmas.List.Elements.{All-nil, All-cons, All-head, All-tail, All-append}
@@ -13,9 +13,9 @@ use Rattle.text_normal.specs.Units.{Letter, units}
 use Rattle.text_normal.specs.Layout.{marks_items}
 use Rattle.text_normal.specs.Greedy.{all_lines, add_units}
 use Rattle.text_normal.specs.NormalStates.{AllHaveRoom, has_room}
-use Rattle.text_normal.specs.Riders.{Rider, plain, note, ride, plain_letter, Carried, nothing_carried, carried, carry}
-use Rattle.text_normal.specs.Riders.{is_carrier, in_word_at, shown_item, shown_lines, settled_lines, normal_lines}
-use Rattle.text_normal.specs.Riders.{has_wide_text}
+use Rattle.text_normal.specs.Riders.{Carried, Rider, carried, carry, has_wide_text, in_word_at, is_carrier}
+use Rattle.text_normal.specs.Riders.{normal_lines, note, nothing_carried, plain, plain_letter, ride, settled_lines}
+use Rattle.text_normal.specs.Riders.{shown_item, shown_lines}
 use Rattle.text_normal.proofs.UnitsReading.{read_is_units}
 use Rattle.text_normal.proofs.NormalFinal.{lines_are, lines_within}
 use Rattle.text_normal.proofs.MarkedLemmas.{no_width}

@@ -1,7 +1,7 @@
 -- Markers change no line: line by line, the characters are those of the text without its markers.
-use Rattle.std.proofs.Common.{◌≡◌, ◌⊎◌, ℕ, ◌≤◌, Bool, true, false, not, ◌&&◌, ◌||◌, nat_le, nat_lt, List, [], ◌∷◌}
-use Rattle.std.proofs.Common.{◌++◌, map, filter, is_some, cond, sym, ap, subst, ◌∙◌, refl, append-nil, append_assoc}
-use Rattle.std.proofs.Common.{None, inl, inr, arith}
+use Rattle.std.proofs.Common.{◌≡◌, ◌⊎◌, ◌≤◌, ◌&&◌, ◌||◌, [], ◌∷◌, ◌++◌, ◌∙◌, Bool, List, None, ap, append-nil}
+use Rattle.std.proofs.Common.{append_assoc, arith, cond, false, filter, inl, inr, is_some, map, nat_le, nat_lt, not}
+use Rattle.std.proofs.Common.{refl, subst, sym, true, ℕ}
 use Rattle.std.specs.Prelude.{Option, All, IsTrue, fold, if◌then◌else◌}
 use Rattle.std.proofs.lemmas.Bool.{false≢true}
 use Rattle.std.proofs.lemmas.Bool.Decides.{nat_tests}
@@ -10,13 +10,13 @@ use Rattle.text_lines.specs.Columns.{columns_of, width_of}
 use Rattle.text_lines.specs.Tagged.{Item, character, marker, characters}
 use Rattle.text_pieces.specs.Sources.{Source, letter, fragment, is_break_point, is_filled}
 use Rattle.text_pieces.specs.Items.{has_text}
-use Rattle.text_normal.specs.Units.{Letter, Piece, piece, units, has_columns, with_front, space_of, first_of}
-use Rattle.text_normal.specs.Units.{pieces_after, joining, joined, has_letters}
+use Rattle.text_normal.specs.Units.{Letter, Piece, first_of, has_columns, has_letters, joined, joining, piece}
+use Rattle.text_normal.specs.Units.{pieces_after, space_of, units, with_front}
 use Rattle.text_normal.specs.Layout.{IsAllowed, Mark, marks_items}
 use Rattle.text_normal.specs.Greedy.{all_lines, add_units}
 use Rattle.text_normal.specs.Letters.{letters_of as source_letters, texts_of}
-use Rattle.text_normal.specs.Riders.{Rider, plain, note, ride, plain_letter, nothing_carried, carry, is_carrier}
-use Rattle.text_normal.specs.Riders.{in_word_at, shown_item, shown_lines, settled_lines, normal_lines, has_wide_text}
+use Rattle.text_normal.specs.Riders.{Rider, carry, has_wide_text, in_word_at, is_carrier, normal_lines, note}
+use Rattle.text_normal.specs.Riders.{nothing_carried, plain, plain_letter, ride, settled_lines, shown_item, shown_lines}
 use Rattle.text_normal.proofs.UnitsReading.{pieces_after-filled, pieces_after-letter, pieces_after-break}
 use Rattle.text_normal.proofs.NormalFinal.{letters_fit, units_fit}
 use Rattle.text_normal_laws.proofs.MarkedWidth.{carried_room}
@@ -25,7 +25,8 @@ use Rattle.text_normal.proofs.UnitsLetters.{units_are_filled}
 use Rattle.text_normal.proofs.Retagging.{retag}
 use Rattle.text_normal.proofs.PlainLines.{lines_shown, line_has_text, all_allowed}
 use Rattle.text_normal_laws.proofs.MarkedKept.{IsRiding, AreRiding, riding_both, all_carried}
-use Rattle.text_normal_laws.proofs.NotesAside.{is_plain, bare, bare_columns, chars, bare_piece, IsSound, units_show_alike}
+use Rattle.text_normal_laws.proofs.NotesAside.{is_plain, bare, bare_columns, chars, bare_piece, IsSound}
+use Rattle.text_normal_laws.proofs.NotesAside.{units_show_alike}
 
 -- ---- pieces without the notes
 
@@ -219,25 +220,25 @@ units_are w ls rides room goods =
 
 -- ---- what is carried of a text, from its front
 
-abbrev told : {S : Type 0} → ℕ → List (List ℕ) → Bool → List (Source S) → List (Letter (Rider S))
-told w waiting in_word [] = []
-told w waiting in_word (letter c main further ∷ rest) =
+abbrev emitted : {S : Type 0} → ℕ → List (List ℕ) → Bool → List (Source S) → List (Letter (Rider S))
+emitted w waiting in_word [] = []
+emitted w waiting in_word (letter c main further ∷ rest) =
     if is_carrier c
-    then map (λ name. ride name) waiting ++ (plain_letter c main ∷ told w [] (in_word_at w in_word c) rest)
-    else plain_letter c main ∷ told w waiting (in_word_at w in_word c) rest
-told w waiting in_word (fragment name ∷ rest) =
-    if in_word then ride name ∷ told w waiting in_word rest else told w (waiting ++ name ∷ []) in_word rest
+    then map (λ name. ride name) waiting ++ (plain_letter c main ∷ emitted w [] (in_word_at w in_word c) rest)
+    else plain_letter c main ∷ emitted w waiting (in_word_at w in_word c) rest
+emitted w waiting in_word (fragment name ∷ rest) =
+    if in_word then ride name ∷ emitted w waiting in_word rest else emitted w (waiting ++ name ∷ []) in_word rest
 
-carried_told : {S : Type 0} (w : ℕ) (source : List (Source S)) (letters : List (Letter (Rider S)))
+carried_emitted : {S : Type 0} (w : ℕ) (source : List (Source S)) (letters : List (Letter (Rider S)))
     (waiting : List (List ℕ)) (in_word : Bool)
     → (fold (carry w) (record { letters = letters; waiting = waiting; in_word = in_word }) source).letters
-    ≡ letters ++ told w waiting in_word source
-carried_told w [] letters waiting in_word = sym (append-nil letters)
-carried_told {S = S} w (letter c main further ∷ rest) letters waiting in_word =
-    by_carrier (λ ls ws b. carried_told w rest ls ws b) (is_carrier c)
+    ≡ letters ++ emitted w waiting in_word source
+carried_emitted w [] letters waiting in_word = sym (append-nil letters)
+carried_emitted {S = S} w (letter c main further ∷ rest) letters waiting in_word =
+    by_carrier (λ ls ws b. carried_emitted w rest ls ws b) (is_carrier c)
   where
     by_carrier : ((ls : List (Letter (Rider S))) (ws : List (List ℕ)) (b : Bool)
-        → (fold (carry w) (record { letters = ls; waiting = ws; in_word = b }) rest).letters ≡ ls ++ told w ws b rest)
+        → (fold (carry w) (record { letters = ls; waiting = ws; in_word = b }) rest).letters ≡ ls ++ emitted w ws b rest)
         → (b : Bool) → (fold (carry w) (if b then record {
           letters = letters ++ (map (λ name. ride name) waiting ++ plain_letter c main ∷ []);
           waiting = [];
@@ -247,28 +248,28 @@ carried_told {S = S} w (letter c main further ∷ rest) letters waiting in_word 
           waiting = waiting;
           in_word = in_word_at w in_word c;
         }) rest).letters ≡ letters ++ (if b
-        then map (λ name. ride name) waiting ++ (plain_letter c main ∷ told w [] (in_word_at w in_word c) rest)
-        else plain_letter c main ∷ told w waiting (in_word_at w in_word c) rest)
+        then map (λ name. ride name) waiting ++ (plain_letter c main ∷ emitted w [] (in_word_at w in_word c) rest)
+        else plain_letter c main ∷ emitted w waiting (in_word_at w in_word c) rest)
     by_carrier more true =
         more (letters ++ (map (λ name. ride name) waiting ++ plain_letter c main ∷ [])) [] (in_word_at w in_word c)
         ∙ append_assoc letters (map (λ name. ride name) waiting ++ plain_letter c main ∷ [])
-        (told w [] (in_word_at w in_word c) rest)
+        (emitted w [] (in_word_at w in_word c) rest)
         ∙ ap (λ ls. letters ++ ls) (append_assoc (map (λ name. ride name) waiting) (plain_letter c main ∷ [])
-        (told w [] (in_word_at w in_word c) rest))
+        (emitted w [] (in_word_at w in_word c) rest))
     by_carrier more false =
         more (letters ++ plain_letter c main ∷ []) waiting (in_word_at w in_word c)
-        ∙ append_assoc letters (plain_letter c main ∷ []) (told w waiting (in_word_at w in_word c) rest)
-carried_told {S = S} w (fragment name ∷ rest) letters waiting in_word =
-    by_word (λ ls ws. carried_told w rest ls ws in_word) in_word refl
+        ∙ append_assoc letters (plain_letter c main ∷ []) (emitted w waiting (in_word_at w in_word c) rest)
+carried_emitted {S = S} w (fragment name ∷ rest) letters waiting in_word =
+    by_word (λ ls ws. carried_emitted w rest ls ws in_word) in_word refl
   where
     by_word : ((ls : List (Letter (Rider S))) (ws : List (List ℕ))
         → (fold (carry w) (record { letters = ls; waiting = ws; in_word = in_word }) rest).letters
-        ≡ ls ++ told w ws in_word rest) → (b : Bool) → in_word ≡ b → (fold (carry w) (if b
+        ≡ ls ++ emitted w ws in_word rest) → (b : Bool) → in_word ≡ b → (fold (carry w) (if b
         then record { letters = letters ++ ride name ∷ []; waiting = waiting; in_word = in_word }
         else record { letters = letters; waiting = waiting ++ name ∷ []; in_word = in_word }) rest).letters
-        ≡ letters ++ (if b then ride name ∷ told w waiting in_word rest else told w (waiting ++ name ∷ []) in_word rest)
+        ≡ letters ++ (if b then ride name ∷ emitted w waiting in_word rest else emitted w (waiting ++ name ∷ []) in_word rest)
     by_word more true is =
-        more (letters ++ ride name ∷ []) waiting ∙ append_assoc letters (ride name ∷ []) (told w waiting in_word rest)
+        more (letters ++ ride name ∷ []) waiting ∙ append_assoc letters (ride name ∷ []) (emitted w waiting in_word rest)
     by_word more false is = more letters (waiting ++ name ∷ [])
 
 -- its letters alone
@@ -282,41 +283,41 @@ rides_bare : (S : Type 0) (names : List (List ℕ)) (ls : List (Letter (Rider S)
 rides_bare S [] ls = refl
 rides_bare S (name ∷ names) ls = rides_bare S names ls
 
-told_bare : {S : Type 0} (w : ℕ) (source : List (Source S)) (waiting : List (List ℕ)) (in_word : Bool)
-    → bare (told w waiting in_word source) ≡ plains source
-told_bare w [] waiting in_word = refl
-told_bare {S = S} w (letter c main further ∷ rest) waiting in_word =
-    by_carrier (λ ws b. told_bare w rest ws b) (is_carrier c)
+emitted_bare : {S : Type 0} (w : ℕ) (source : List (Source S)) (waiting : List (List ℕ)) (in_word : Bool)
+    → bare (emitted w waiting in_word source) ≡ plains source
+emitted_bare w [] waiting in_word = refl
+emitted_bare {S = S} w (letter c main further ∷ rest) waiting in_word =
+    by_carrier (λ ws b. emitted_bare w rest ws b) (is_carrier c)
   where
-    by_carrier : ((ws : List (List ℕ)) (b : Bool) → bare (told w ws b rest) ≡ plains rest) → (b : Bool) → bare (if b
-        then map (λ name. ride name) waiting ++ (plain_letter c main ∷ told w [] (in_word_at w in_word c) rest)
-        else plain_letter c main ∷ told w waiting (in_word_at w in_word c) rest) ≡ plain_letter c main ∷ plains rest
+    by_carrier : ((ws : List (List ℕ)) (b : Bool) → bare (emitted w ws b rest) ≡ plains rest) → (b : Bool) → bare (if b
+        then map (λ name. ride name) waiting ++ (plain_letter c main ∷ emitted w [] (in_word_at w in_word c) rest)
+        else plain_letter c main ∷ emitted w waiting (in_word_at w in_word c) rest) ≡ plain_letter c main ∷ plains rest
     by_carrier more true =
-        rides_bare S waiting (plain_letter c main ∷ told w [] (in_word_at w in_word c) rest)
+        rides_bare S waiting (plain_letter c main ∷ emitted w [] (in_word_at w in_word c) rest)
         ∙ ap (λ ls. plain_letter c main ∷ ls) (more [] (in_word_at w in_word c))
     by_carrier more false = ap (λ ls. plain_letter c main ∷ ls) (more waiting (in_word_at w in_word c))
-told_bare {S = S} w (fragment name ∷ rest) waiting in_word = by_word (λ ws. told_bare w rest ws in_word) in_word
+emitted_bare {S = S} w (fragment name ∷ rest) waiting in_word = by_word (λ ws. emitted_bare w rest ws in_word) in_word
   where
-    by_word : ((ws : List (List ℕ)) → bare (told w ws in_word rest) ≡ plains rest) → (b : Bool) → bare (if b
-        then ride name ∷ told w waiting in_word rest else told w (waiting ++ name ∷ []) in_word rest) ≡ plains rest
+    by_word : ((ws : List (List ℕ)) → bare (emitted w ws in_word rest) ≡ plains rest) → (b : Bool) → bare (if b
+        then ride name ∷ emitted w waiting in_word rest else emitted w (waiting ++ name ∷ []) in_word rest) ≡ plains rest
     by_word more true = more waiting
     by_word more false = more (waiting ++ name ∷ [])
 
 -- ---- each piece that has a note has a letter
 
-abbrev GoodBehind : {S : Type 0} → Bool → List (Piece (Rider S)) → Type 0
-GoodBehind in_word [] = Unit {0}
-GoodBehind in_word (p ∷ ps) = (in_word ≡ false → IsGood p) × All IsGood ps
+abbrev GoodAfter : {S : Type 0} → Bool → List (Piece (Rider S)) → Type 0
+GoodAfter in_word [] = Unit {0}
+GoodAfter in_word (p ∷ ps) = (in_word ≡ false → IsGood p) × All IsGood ps
 
 abbrev BeginsPlain : {S : Type 0} → List (Piece (Rider S)) → Type 0
 BeginsPlain [] = ⊥
 BeginsPlain (p ∷ ps) = ((is_filled p.letters ≡ true) × (is_filled (bare p.letters) ≡ true)) × All IsGood ps
 
-all_good : {S : Type 0} (ps : List (Piece (Rider S))) → GoodBehind false ps → All IsGood ps
+all_good : {S : Type 0} (ps : List (Piece (Rider S))) → GoodAfter false ps → All IsGood ps
 all_good [] h = All-nil IsGood
 all_good (p ∷ ps) h = All-cons IsGood p ps (h.0 refl) h.1
 
-plain_good : {S : Type 0} (b : Bool) (ps : List (Piece (Rider S))) → BeginsPlain ps → GoodBehind b ps
+plain_good : {S : Type 0} (b : Bool) (ps : List (Piece (Rider S))) → BeginsPlain ps → GoodAfter b ps
 plain_good b [] h = tt
 plain_good b (p ∷ ps) h = (λ _. h.0.1 ∙ sym h.0.0, h.1)
 
@@ -329,10 +330,10 @@ ride_in_front {S = S} name (p ∷ ps) h = by_some (is_some (columns_of 0x2060))
     by_some true = ((refl, h.0.1), h.1)
     by_some false = h
 
-ride_behind : {S : Type 0} (name : List ℕ) (ps : List (Piece (Rider S))) → GoodBehind true ps
-    → GoodBehind true (with_front (ride name) ps)
-ride_behind name [] h = h
-ride_behind name (p ∷ ps) h = (λ e. absurd (false≢true (sym e)), h.1)
+ride_after : {S : Type 0} (name : List ℕ) (ps : List (Piece (Rider S))) → GoodAfter true ps
+    → GoodAfter true (with_front (ride name) ps)
+ride_after name [] h = h
+ride_after name (p ∷ ps) h = (λ e. absurd (false≢true (sym e)), h.1)
 
 rides_in_front : {S : Type 0} (s : Option (Rider S)) (names : List (List ℕ)) (xs : List (Letter (Rider S)))
     → BeginsPlain (pieces_after s xs) → BeginsPlain (pieces_after s (map (λ name. ride name) names ++ xs))
@@ -342,37 +343,37 @@ rides_in_front s (name ∷ names) xs h =
     (ride_in_front name (pieces_after s (map (λ n. ride n) names ++ xs)) (rides_in_front s names xs h))
 
 letter_in_front : {S : Type 0} (c : ℕ) (main : S) (ps : List (Piece (Rider S))) → is_filled ps ≡ true
-    → is_some (columns_of c) ≡ true → GoodBehind true ps → BeginsPlain (with_front (plain_letter c main) ps)
+    → is_some (columns_of c) ≡ true → GoodAfter true ps → BeginsPlain (with_front (plain_letter c main) ps)
 letter_in_front c main [] some is h = cc
 letter_in_front {S = S} c main (p ∷ ps) some is h =
     subst (λ b. BeginsPlain (piece p.space (if b then plain_letter c main ∷ p.letters else p.letters) ∷ ps)) (sym is)
     ((refl, refl), h.1)
 
 letter_left_out : {S : Type 0} (b : Bool) (c : ℕ) (main : S) (ps : List (Piece (Rider S)))
-    → is_some (columns_of c) ≡ false → GoodBehind b ps → GoodBehind b (with_front (plain_letter c main) ps)
+    → is_some (columns_of c) ≡ false → GoodAfter b ps → GoodAfter b (with_front (plain_letter c main) ps)
 letter_left_out b c main [] is h = h
 letter_left_out {S = S} b c main (p ∷ ps) is h =
-    subst (λ t. GoodBehind b (piece p.space (if t then plain_letter c main ∷ p.letters else p.letters) ∷ ps)) (sym is) h
+    subst (λ t. GoodAfter b (piece p.space (if t then plain_letter c main ∷ p.letters else p.letters) ∷ ps)) (sym is) h
 
 not_wide : (w n : ℕ) → nat_lt w n ≡ false → nat_le n w ≡ true
 not_wide w n h = grind (arith, nat_tests, h)
 
 letter_good : {S : Type 0} (w c : ℕ) (main : S) (s : Option (Rider S)) (waiting : List (List ℕ)) (in_word : Bool)
     (rest : List (Source S)) → ((t : Option (Rider S)) (ws : List (List ℕ)) (b : Bool)
-    → GoodBehind b (pieces_after t (told w ws b rest)))
+    → GoodAfter b (pieces_after t (emitted w ws b rest)))
     → (not (is_break_point c) && nat_lt w (width_of c)) ≡ false
     → (breaks some : Bool) → is_break_point c ≡ breaks → is_some (columns_of c) ≡ some
-    → GoodBehind in_word (pieces_after s (if not breaks && some
-    then map (λ name. ride name) waiting ++ (plain_letter c main ∷ told w [] (in_word_at w in_word c) rest)
-    else plain_letter c main ∷ told w waiting (in_word_at w in_word c) rest))
+    → GoodAfter in_word (pieces_after s (if not breaks && some
+    then map (λ name. ride name) waiting ++ (plain_letter c main ∷ emitted w [] (in_word_at w in_word c) rest)
+    else plain_letter c main ∷ emitted w waiting (in_word_at w in_word c) rest))
 letter_good w c main s waiting in_word rest more narrow true some breaks is =
     let l = plain_letter c main in
     let next : in_word_at w in_word c ≡ false = ap
     (λ b. if b then false else (if is_some (columns_of c) then nat_le (width_of c) w else in_word)) breaks in
-    subst (GoodBehind in_word) (sym (pieces_after-break s l (told w waiting (in_word_at w in_word c) rest) breaks)) (
+    subst (GoodAfter in_word) (sym (pieces_after-break s l (emitted w waiting (in_word_at w in_word c) rest) breaks)) (
       λ _. refl,
-      all_good (pieces_after (space_of l) (told w waiting (in_word_at w in_word c) rest))
-          (subst (λ b. GoodBehind false (pieces_after (space_of l) (told w waiting b rest))) (sym next)
+      all_good (pieces_after (space_of l) (emitted w waiting (in_word_at w in_word c) rest))
+          (subst (λ b. GoodAfter false (pieces_after (space_of l) (emitted w waiting b rest))) (sym next)
           (more (space_of l) waiting false)),
     )
 letter_good w c main s waiting in_word rest more narrow false false breaks is =
@@ -380,9 +381,9 @@ letter_good w c main s waiting in_word rest more narrow false false breaks is =
     let next : in_word_at w in_word c ≡ in_word = ap
     (λ b. if b then false else (if is_some (columns_of c) then nat_le (width_of c) w else in_word)) breaks
     ∙ ap (λ b. if b then nat_le (width_of c) w else in_word) is in
-    subst (GoodBehind in_word) (sym (pieces_after-letter s l (told w waiting (in_word_at w in_word c) rest) breaks))
-    (letter_left_out in_word c main (pieces_after s (told w waiting (in_word_at w in_word c) rest)) is
-    (subst (λ b. GoodBehind in_word (pieces_after s (told w waiting b rest))) (sym next) (more s waiting in_word)))
+    subst (GoodAfter in_word) (sym (pieces_after-letter s l (emitted w waiting (in_word_at w in_word c) rest) breaks))
+    (letter_left_out in_word c main (pieces_after s (emitted w waiting (in_word_at w in_word c) rest)) is
+    (subst (λ b. GoodAfter in_word (pieces_after s (emitted w waiting b rest))) (sym next) (more s waiting in_word)))
 letter_good w c main s waiting in_word rest more narrow false true breaks is =
     let l = plain_letter c main in
     let fits : nat_le (width_of c) w ≡ true = not_wide w (width_of c)
@@ -390,51 +391,51 @@ letter_good w c main s waiting in_word rest more narrow false true breaks is =
     let next : in_word_at w in_word c ≡ true = ap
     (λ b. if b then false else (if is_some (columns_of c) then nat_le (width_of c) w else in_word)) breaks
     ∙ ap (λ b. if b then nat_le (width_of c) w else in_word) is ∙ fits in
-    let xs = told w [] (in_word_at w in_word c) rest in
+    let xs = emitted w [] (in_word_at w in_word c) rest in
     plain_good in_word (pieces_after s (map (λ name. ride name) waiting ++ (l ∷ xs)))
     (rides_in_front s waiting (l ∷ xs) (subst BeginsPlain (sym (pieces_after-letter s l xs breaks))
     (letter_in_front c main (pieces_after s xs) (pieces_after-filled s xs) is
-    (subst (λ b. GoodBehind true (pieces_after s (told w [] b rest))) (sym next) (more s [] true)))))
+    (subst (λ b. GoodAfter true (pieces_after s (emitted w [] b rest))) (sym next) (more s [] true)))))
 
 fragment_good : {S : Type 0} (w : ℕ) (name : List ℕ) (s : Option (Rider S)) (waiting : List (List ℕ)) (in_word : Bool)
-    (rest : List (Source S)) → ((ws : List (List ℕ)) (b : Bool) → GoodBehind b (pieces_after s (told w ws b rest)))
-    → GoodBehind in_word (pieces_after s (if in_word then ride name ∷ told w waiting in_word rest
-    else told w (waiting ++ name ∷ []) in_word rest))
+    (rest : List (Source S)) → ((ws : List (List ℕ)) (b : Bool) → GoodAfter b (pieces_after s (emitted w ws b rest)))
+    → GoodAfter in_word (pieces_after s (if in_word then ride name ∷ emitted w waiting in_word rest
+    else emitted w (waiting ++ name ∷ []) in_word rest))
 fragment_good w name s waiting true rest more =
-    subst (GoodBehind true) (sym (pieces_after-letter s (ride name) (told w waiting true rest) refl))
-    (ride_behind name (pieces_after s (told w waiting true rest)) (more waiting true))
+    subst (GoodAfter true) (sym (pieces_after-letter s (ride name) (emitted w waiting true rest) refl))
+    (ride_after name (pieces_after s (emitted w waiting true rest)) (more waiting true))
 fragment_good w name s waiting false rest more = more (waiting ++ name ∷ []) false
 
 both_false : (a b : Bool) → (a || b) ≡ false → (a ≡ false) × (b ≡ false)
 both_false true b h = cc
 both_false false b h = (refl, h)
 
-told_good : {S : Type 0} (w : ℕ) (source : List (Source S)) (s : Option (Rider S)) (waiting : List (List ℕ))
+emitted_good : {S : Type 0} (w : ℕ) (source : List (Source S)) (s : Option (Rider S)) (waiting : List (List ℕ))
     (in_word : Bool) → has_wide_text w source ≡ false
-    → GoodBehind in_word (pieces_after s (told w waiting in_word source))
-told_good w [] s waiting in_word narrow = (λ _. refl, All-nil IsGood)
-told_good w (letter c main further ∷ rest) s waiting in_word narrow =
+    → GoodAfter in_word (pieces_after s (emitted w waiting in_word source))
+emitted_good w [] s waiting in_word narrow = (λ _. refl, All-nil IsGood)
+emitted_good w (letter c main further ∷ rest) s waiting in_word narrow =
     let parts = both_false (not (is_break_point c) && nat_lt w (width_of c)) (has_wide_text w rest) narrow in
-    letter_good w c main s waiting in_word rest (λ t ws b. told_good w rest t ws b parts.1) parts.0 (is_break_point c)
+    letter_good w c main s waiting in_word rest (λ t ws b. emitted_good w rest t ws b parts.1) parts.0 (is_break_point c)
     (is_some (columns_of c)) refl refl
-told_good w (fragment name ∷ rest) s waiting in_word narrow =
-    fragment_good w name s waiting in_word rest (λ ws b. told_good w rest s ws b narrow)
+emitted_good w (fragment name ∷ rest) s waiting in_word narrow =
+    fragment_good w name s waiting in_word rest (λ ws b. emitted_good w rest s ws b narrow)
 
 -- ---- the lines
 
-told_plain : {S : Type 0} (w : ℕ) (source : List (Source S)) (in_word : Bool) → told w [] in_word (texts_of source)
+emitted_plain : {S : Type 0} (w : ℕ) (source : List (Source S)) (in_word : Bool) → emitted w [] in_word (texts_of source)
     ≡ plains source
-told_plain w [] in_word = refl
-told_plain {S = S} w (letter c main further ∷ rest) in_word =
-    by_carrier (told_plain w rest (in_word_at w in_word c)) (is_carrier c)
+emitted_plain w [] in_word = refl
+emitted_plain {S = S} w (letter c main further ∷ rest) in_word =
+    by_carrier (emitted_plain w rest (in_word_at w in_word c)) (is_carrier c)
   where
-    by_carrier : told w [] (in_word_at w in_word c) (texts_of rest) ≡ plains rest → (b : Bool) → (if b
-        then [] ++ (plain_letter c main ∷ told w [] (in_word_at w in_word c) (texts_of rest))
-        else plain_letter c main ∷ told w [] (in_word_at w in_word c) (texts_of rest))
+    by_carrier : emitted w [] (in_word_at w in_word c) (texts_of rest) ≡ plains rest → (b : Bool) → (if b
+        then [] ++ (plain_letter c main ∷ emitted w [] (in_word_at w in_word c) (texts_of rest))
+        else plain_letter c main ∷ emitted w [] (in_word_at w in_word c) (texts_of rest))
         ≡ plain_letter c main ∷ plains rest
     by_carrier more true = ap (λ ls. plain_letter c main ∷ ls) more
     by_carrier more false = ap (λ ls. plain_letter c main ∷ ls) more
-told_plain w (fragment name ∷ rest) in_word = told_plain w rest in_word
+emitted_plain w (fragment name ∷ rest) in_word = emitted_plain w rest in_word
 
 plains_retagged : {S : Type 0} (source : List (Source S)) → plains source ≡ map (retag plain) (source_letters source)
 plains_retagged [] = refl
@@ -483,30 +484,30 @@ plains_text w source =
     subst HaveText (sym (ap (shown_lines w) (plains_retagged source) ∙ lines_shown w (source_letters source)))
     (allowed_text w (all_lines (add_units w (units (source_letters source)))) (all_allowed w (source_letters source)))
 
-told_shown : {S : Type 0} (w : ℕ) (source : List (Source S)) → has_wide_text w source ≡ false
-    → AreRiding (told w [] false source) → AllHaveRoom w false (told w [] false source)
-    → map (characters {S = S}) (shown_lines w (told w [] false source))
+emitted_shown : {S : Type 0} (w : ℕ) (source : List (Source S)) → has_wide_text w source ≡ false
+    → AreRiding (emitted w [] false source) → AllHaveRoom w false (emitted w [] false source)
+    → map (characters {S = S}) (shown_lines w (emitted w [] false source))
     ≡ map (characters {S = S}) (shown_lines w (plains source))
-told_shown w source narrow rides room =
-    let ls = told w [] false source in
-    let are = units_are w ls rides room (all_good (pieces_after None ls) (told_good w source None [] false narrow)) in
+emitted_shown w source narrow rides room =
+    let ls = emitted w [] false source in
+    let are = units_are w ls rides room (all_good (pieces_after None ls) (emitted_good w source None [] false narrow)) in
     shown_chars (all_lines (add_units w (units ls))) ∙ units_show_alike w (units ls) are.sound
-    ∙ ap (λ ps. map chars (all_lines (add_units w ps))) (are.same ∙ ap units (told_bare w source [] false))
+    ∙ ap (λ ps. map chars (all_lines (add_units w ps))) (are.same ∙ ap units (emitted_bare w source [] false))
     ∙ sym (shown_chars (all_lines (add_units w (units (plains source)))))
 
 pub markers_stand_aside : {S : Type 0} (w : ℕ) (source : List (Source S)) → has_wide_text w source ≡ false
     → map (characters {S = S}) (normal_lines w source) ≡ map (characters {S = S}) (normal_lines w (texts_of source))
 unfolding normal_lines
 markers_stand_aside {S = S} w source narrow =
-    let is = carried_told {S = S} w source [] [] false in
+    let is = carried_emitted {S = S} w source [] [] false in
     let h = all_carried w source [] nothing_carried (record { riding = tt; all = refl; clear = λ within. refl }) in
     let room = carried_room w source nothing_carried narrow (All-nil (λ l. IsTrue (has_room w false l))) in
-    let same = told_shown w source narrow (subst AreRiding is h.riding) (subst (AllHaveRoom w false) is room) in
+    let same = emitted_shown w source narrow (subst AreRiding is h.riding) (subst (AllHaveRoom w false) is room) in
     let text = plains_text w source in
     ap (λ ls. map characters (settled_lines [] (shown_lines w ls))) is
-    ∙ ap (map characters) (settled_text (shown_lines w (told w [] false source))
-    (text_alike (shown_lines w (told w [] false source)) (shown_lines w (plains source)) same text))
+    ∙ ap (map characters) (settled_text (shown_lines w (emitted w [] false source))
+    (text_alike (shown_lines w (emitted w [] false source)) (shown_lines w (plains source)) same text))
     ∙ same
     ∙ ap (map characters) (sym (settled_text (shown_lines w (plains source)) text))
     ∙ ap (λ ls. map characters (settled_lines [] (shown_lines w ls)))
-    (sym (carried_told {S = S} w (texts_of source) [] [] false ∙ told_plain w source false))
+    (sym (carried_emitted {S = S} w (texts_of source) [] [] false ∙ emitted_plain w source false))

@@ -12,9 +12,9 @@ use Rattle.text_pieces.proofs.RetaggedItems.{chosen_by, folded, has_text_retagge
 use Rattle.text_normal.specs.Units.{Letter, units}
 use Rattle.text_normal.specs.Layout.{Mark, marks_items}
 use Rattle.text_normal.specs.Greedy.{all_lines, add_units}
-use Rattle.text_normal.specs.Riders.{Rider, plain, note, ride, plain_letter, Carried, nothing_carried, is_carrier}
-use Rattle.text_normal.specs.Riders.{in_word_at, carry, carried, shown_item, shown_lines, settled_lines, settled_rest}
-use Rattle.text_normal.specs.Riders.{normal_lines, normal_waiting, has_wide_text}
+use Rattle.text_normal.specs.Riders.{Carried, Rider, carried, carry, has_wide_text, in_word_at, is_carrier}
+use Rattle.text_normal.specs.Riders.{normal_lines, normal_waiting, note, nothing_carried, plain, plain_letter, ride}
+use Rattle.text_normal.specs.Riders.{settled_lines, settled_rest, shown_item, shown_lines}
 use Rattle.text_normal.proofs.Retagging.{retag, remark, lines_retagged, items_retagged}
 
 abbrev pub rerider : {A B : Type 0} → (A → B) → Rider A → Rider B

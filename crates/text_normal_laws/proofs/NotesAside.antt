@@ -1,6 +1,6 @@
 -- Lines without the notes: unit by unit, the letters that are no notes are filled as if the notes were none.
-use Rattle.std.proofs.Common.{◌≡◌, ℕ, ◌+◌, ◌≤◌, Bool, true, false, nat_le, List, [], ◌∷◌, ◌++◌, map, sym, ap, subst}
-use Rattle.std.proofs.Common.{◌∙◌, refl, append-nil, append_assoc, arith}
+use Rattle.std.proofs.Common.{◌≡◌, ◌+◌, ◌≤◌, [], ◌∷◌, ◌++◌, ◌∙◌, Bool, List, ap, append-nil, append_assoc, arith, false}
+use Rattle.std.proofs.Common.{map, nat_le, refl, subst, sym, true, ℕ}
 use Rattle.std.specs.Prelude.{Option, All, fold, if◌then◌else◌}
 use Rattle.std.proofs.lemmas.Bool.{false≢true}
 use Rattle.std.proofs.lemmas.Bool.Decides.{nat_tests}
@@ -11,8 +11,8 @@ use Rattle.text_lines.specs.Tagged.{Item, character, characters}
 use Rattle.text_pieces.specs.Sources.{is_filled}
 use Rattle.text_pieces.proofs.ItemColumns.{characters-append}
 use Rattle.text_normal.specs.Units.{Letter, Piece, piece, letters_columns}
-use Rattle.text_normal.specs.Layout.{Joint, opens, starts, inside, cuttable, Mark, mark, marked, gap, following_columns}
-use Rattle.text_normal.specs.Layout.{columns, gap_items, following_items, marks_items}
+use Rattle.text_normal.specs.Layout.{Joint, Mark, columns, cuttable, following_columns, following_items, gap, gap_items}
+use Rattle.text_normal.specs.Layout.{inside, mark, marked, marks_items, opens, starts}
 use Rattle.text_normal.specs.Greedy.{Filled, filled, ended, all_lines, add_marks, add_mark, add_unit, add_units}
 use Rattle.text_normal.specs.Riders.{Rider, plain, note, shown_item}
 use Rattle.text_normal.proofs.LayoutSplits.{following_columns-append}
@@ -55,8 +55,8 @@ bare_codes {S = S} (l ∷ ls) = by_tag l.tag refl (bare_codes ls)
 abbrev pub chars : {S : Type 0} → List (Mark (Rider S)) → List ℕ
 chars ms = characters (map shown_item (marks_items ms))
 
-abbrev behind : {S : Type 0} → List (Mark (Rider S)) → List ℕ
-behind ms = characters (map shown_item (following_items ms))
+abbrev trailing : {S : Type 0} → List (Mark (Rider S)) → List ℕ
+trailing ms = characters (map shown_item (following_items ms))
 
 shown_letter : {S : Type 0} (c : ℕ) (tag : Rider S) (items : List (Item (Rider S)))
     → characters (map shown_item (character c tag ∷ items)) ≡ letter_codes c tag ++ characters (map shown_item items)
@@ -68,32 +68,32 @@ shown_both : {S : Type 0} (xs ys : List (Item (Rider S))) → characters (map sh
 shown_both xs ys =
     ap characters (map-append shown_item xs ys) ∙ characters-append (map shown_item xs) (map shown_item ys)
 
-behind_one : {S : Type 0} (m : Mark (Rider S)) (ms : List (Mark (Rider S))) → behind (m ∷ ms)
-    ≡ characters (map shown_item (gap_items m.joint)) ++ (letter_codes m.letter.code m.letter.tag ++ behind ms)
-behind_one m ms =
+after_one : {S : Type 0} (m : Mark (Rider S)) (ms : List (Mark (Rider S))) → trailing (m ∷ ms)
+    ≡ characters (map shown_item (gap_items m.joint)) ++ (letter_codes m.letter.code m.letter.tag ++ trailing ms)
+after_one m ms =
     shown_both (gap_items m.joint) (character m.letter.code m.letter.tag ∷ following_items ms)
     ∙ ap (λ cs. characters (map shown_item (gap_items m.joint)) ++ cs)
     (shown_letter m.letter.code m.letter.tag (following_items ms))
 
 chars_one : {S : Type 0} (m : Mark (Rider S)) (ms : List (Mark (Rider S))) → chars (m ∷ ms)
-    ≡ letter_codes m.letter.code m.letter.tag ++ behind ms
+    ≡ letter_codes m.letter.code m.letter.tag ++ trailing ms
 chars_one m ms = shown_letter m.letter.code m.letter.tag (following_items ms)
 
-behind_both : {S : Type 0} (xs ys : List (Mark (Rider S))) → behind (xs ++ ys) ≡ behind xs ++ behind ys
-behind_both [] ys = refl
-behind_both (x ∷ xs) ys =
+after_both : {S : Type 0} (xs ys : List (Mark (Rider S))) → trailing (xs ++ ys) ≡ trailing xs ++ trailing ys
+after_both [] ys = refl
+after_both (x ∷ xs) ys =
     let gaps = characters (map shown_item (gap_items x.joint)) in
     let here = letter_codes x.letter.code x.letter.tag in
-    behind_one x (xs ++ ys) ∙ ap (λ cs. gaps ++ (here ++ cs)) (behind_both xs ys)
-    ∙ ap (λ cs. gaps ++ cs) (sym (append_assoc here (behind xs) (behind ys)))
-    ∙ sym (append_assoc gaps (here ++ behind xs) (behind ys)) ∙ ap (λ cs. cs ++ behind ys) (sym (behind_one x xs))
+    after_one x (xs ++ ys) ∙ ap (λ cs. gaps ++ (here ++ cs)) (after_both xs ys)
+    ∙ ap (λ cs. gaps ++ cs) (sym (append_assoc here (trailing xs) (trailing ys)))
+    ∙ sym (append_assoc gaps (here ++ trailing xs) (trailing ys)) ∙ ap (λ cs. cs ++ trailing ys) (sym (after_one x xs))
 
 chars_both : {S : Type 0} (x : Mark (Rider S)) (xs ys : List (Mark (Rider S))) → chars (x ∷ (xs ++ ys))
-    ≡ chars (x ∷ xs) ++ behind ys
+    ≡ chars (x ∷ xs) ++ trailing ys
 chars_both x xs ys =
     let here = letter_codes x.letter.code x.letter.tag in
-    chars_one x (xs ++ ys) ∙ ap (λ cs. here ++ cs) (behind_both xs ys)
-    ∙ sym (append_assoc here (behind xs) (behind ys)) ∙ ap (λ cs. cs ++ behind ys) (sym (chars_one x xs))
+    chars_one x (xs ++ ys) ∙ ap (λ cs. here ++ cs) (after_both xs ys)
+    ∙ sym (append_assoc here (trailing xs) (trailing ys)) ∙ ap (λ cs. cs ++ trailing ys) (sym (chars_one x xs))
 
 -- a joint without a gap
 abbrev Gapless : {S : Type 0} → Joint S → Type 0
@@ -114,11 +114,11 @@ further_columns j [] h = refl
 further_columns j (l ∷ ls) h = omega (arith, (no_gap j h).0, further_columns j ls h)
 
 further_chars : {S : Type 0} (j : Joint (Rider S)) (ls : List (Letter (Rider S))) → Gapless j
-    → behind (map (λ x. mark x j) ls) ≡ codes ls
+    → trailing (map (λ x. mark x j) ls) ≡ codes ls
 further_chars j [] h = refl
 further_chars j (l ∷ ls) h =
-    behind_one (mark l j) (map (λ x. mark x j) ls)
-    ∙ ap (λ items. characters (map shown_item items) ++ (letter_codes l.code l.tag ++ behind (map (λ x. mark x j) ls)))
+    after_one (mark l j) (map (λ x. mark x j) ls)
+    ∙ ap (λ items. characters (map shown_item items) ++ (letter_codes l.code l.tag ++ trailing (map (λ x. mark x j) ls)))
     (no_gap j h).1
     ∙ ap (λ cs. letter_codes l.code l.tag ++ cs) (further_chars j ls h)
 
@@ -158,7 +158,7 @@ chars_more [] space (l ∷ ls) some =
     ∙ ap (λ cs. letter_codes l.code l.tag ++ cs) (further_chars inside ls tt)
 chars_more (x ∷ xs) space (l ∷ ls) some =
     chars_both x xs (marked (opens space) inside (l ∷ ls))
-    ∙ ap (λ cs. chars (x ∷ xs) ++ cs) (behind_one (mark l (opens space)) (map (λ y. mark y inside) ls)
+    ∙ ap (λ cs. chars (x ∷ xs) ++ cs) (after_one (mark l (opens space)) (map (λ y. mark y inside) ls)
     ∙ ap (λ cs. gap_codes (opens space) ++ (letter_codes l.code l.tag ++ cs)) (further_chars inside ls tt))
 
 -- ---- lines of both, unit by unit

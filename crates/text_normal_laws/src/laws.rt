@@ -1,8 +1,7 @@
 //! Laws of texts and their lines: each is the contract of a function that does nothing.
 ghost use Rattle.std.specs.Prelude.{◌≡◌, ℕ, ◌≤◌, All, flat_map, filter, map, Bool, true, false, List, ◌++◌, ◌||◌, not};
 ghost use Rattle.text_lines.specs.Tagged.{line_columns, characters};
-ghost use Rattle.text_pieces.specs.Sources.{Source, sourced};
-ghost use Rattle.text_pieces.specs.Sources.{names_of};
+ghost use Rattle.text_pieces.specs.Sources.{Source, names_of, sourced};
 ghost use Rattle.text_pieces.specs.Retagged.{reitem, resource};
 ghost use Rattle.text_pieces.specs.Items.{markers_of};
 ghost use Rattle.text_normal.specs.Units.{lettered};

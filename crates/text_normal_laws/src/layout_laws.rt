@@ -1,5 +1,5 @@
-ghost use Rattle.std.specs.Prelude.{◌≡◌, ◌<◌, ◌≤◌, ◌++◌, ◌∷◌, ◌⊎◌, ℕ, Bool, true, false, IsTrue, List, All, flat_map};
-ghost use Rattle.std.specs.Prelude.{length};
+ghost use Rattle.std.specs.Prelude.{◌≡◌, ◌<◌, ◌≤◌, ◌++◌, ◌∷◌, ◌⊎◌, All, Bool, IsTrue, List, false, flat_map, length};
+ghost use Rattle.std.specs.Prelude.{true, ℕ};
 ghost use Rattle.text_lines.specs.Columns.{width_of};
 ghost use Rattle.text_lines.specs.Tagged.{Item, line_columns};
 ghost use Rattle.text_normal.specs.Units.{Letter, Piece, has_letters};

@@ -14,6 +14,6 @@ fn markers_ride_on_words()
 {}
 
 /// After a character that is wider than the width a marker waits for the next line.
-fn markers_wait_behind_wide_characters()
+fn markers_wait_after_wide_characters()
     ensures { marked_lines 1 (0x6F22 ∷ []) (codes "b") ≡ (0x6F22 ∷ []) ∷ codes "#nb" ∷ [] }
 {}

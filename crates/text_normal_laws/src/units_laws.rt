@@ -1,7 +1,7 @@
 //! What the definitions of units say together, each law a function that does nothing.
 
-ghost use Rattle.std.specs.Prelude.{◌≡◌, ◌≢◌, ℕ, ◌<◌, ◌≤◌, Bool, false, not, ◌&&◌, [], ◌∷◌, ◌++◌, List, Some, map, All};
-ghost use Rattle.std.specs.Prelude.{flat_map, filter, is_some};
+ghost use Rattle.std.specs.Prelude.{◌≡◌, ◌≢◌, ◌<◌, ◌≤◌, ◌&&◌, [], ◌∷◌, ◌++◌, All, Bool, List, Some, false, filter};
+ghost use Rattle.std.specs.Prelude.{flat_map, is_some, map, not, ℕ};
 ghost use Rattle.text_lines.specs.Columns.{columns_of, width_of};
 ghost use Rattle.text_normal.specs.Units.{Letter, units, is_break_point};
 ghost use Rattle.text_normal.specs.Layout.{Mark, marks, marks_items, IsFullest, AreLinesOf, HasNoLayout, NeverFits};

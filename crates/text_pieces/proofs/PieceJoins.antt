@@ -1,6 +1,6 @@
 -- A text that joins the last piece.
-use Rattle.std.proofs.Common.{◌≡◌, ℕ, ◌+◌, ◌-◌, List, [], ◌∷◌, ◌++◌, Option, None, Some, length, take, set, get_or}
-use Rattle.std.proofs.Common.{slice_get, sym, ap, ◌∙◌, subst, append_assoc, append-nil, arith, chars}
+use Rattle.std.proofs.Common.{◌≡◌, ◌+◌, ◌-◌, [], ◌∷◌, ◌++◌, ◌∙◌, List, None, Option, Some, ap, append-nil, append_assoc}
+use Rattle.std.proofs.Common.{arith, chars, get_or, length, set, slice_get, subst, sym, take, ℕ}
 use Rattle.std.specs.Prelude.{IsSomeAnd, string_bytes}
 use Rattle.std.proofs.lemmas.List.{map-append}
 use Rattle.std.proofs.lemmas.Option.{slice_get-get_or}

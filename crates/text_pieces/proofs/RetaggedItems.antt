@@ -1,6 +1,5 @@
 -- Items and sources under other tags: what does not look at tags is the same of them.
-use Rattle.std.proofs.Common.{◌≡◌, ℕ, Bool, true, false, List, [], ◌∷◌, map, drop, replicate, ap, ◌∙◌}
-use Rattle.std.proofs.Common.{refl}
+use Rattle.std.proofs.Common.{◌≡◌, [], ◌∷◌, ◌∙◌, Bool, List, ap, drop, false, map, refl, replicate, true, ℕ}
 use Rattle.std.specs.Prelude.{fold, if◌then◌else◌}
 use Prim.Native.Nat.{zero, suc}
 use Rattle.text_lines.specs.Columns.{text_columns}

@@ -1,18 +1,18 @@
 -- Characters of a body that are added all at once.
-use Rattle.std.proofs.Common.{◌≡◌, ℕ, ◌+◌, ◌≤◌, Bool, true, false, List, [], ◌∷◌, ◌++◌, if◌then◌else◌, sym, ap, ◌∙◌}
-use Rattle.std.proofs.Common.{refl, subst, append-nil, append_assoc, inl, inr, arith}
+use Rattle.std.proofs.Common.{◌≡◌, ◌+◌, ◌≤◌, [], ◌∷◌, ◌++◌, if◌then◌else◌, ◌∙◌, Bool, List, ap, append-nil}
+use Rattle.std.proofs.Common.{append_assoc, arith, false, inl, inr, refl, subst, sym, true, ℕ}
 use Rattle.std.specs.Prelude.{not, ◌||◌, ◌&&◌, nat_lt, nat_le}
 use Rattle.std.proofs.lemmas.List.{map-append}
 use Rattle.std.proofs.lemmas.List.Sums.{fold-append, sum_by-cons}
 use Rattle.text_lines.specs.Columns.{width_of, text_columns}
 use Rattle.text_lines.specs.Tagged.{Item, character, tagged, line_columns}
 use Rattle.text_pieces.specs.Sources.{letter, sourced}
-use Rattle.text_preserved.specs.Preserved.{Kind, solid, white, tab, cut, nothing, kind_of, Laying, chosen, taken, fresh}
-use Rattle.text_preserved.specs.Preserved.{with_room, put, put_all, written}
-use Rattle.text_preserved.specs.Pass.{Pass, passes, lettered, begins, entered, read_at, read_letter, read_source}
-use Rattle.text_preserved.specs.Pass.{read_all}
-use Rattle.text_preserved.specs.Fronts.{goes_on_with, BeginsSolid, JoinsBody, Fits, has_wider, all_lettered}
-use Rattle.text_preserved.specs.Fronts.{run_lettered, IsSteady}
+use Rattle.text_preserved.specs.Preserved.{Kind, Laying, chosen, cut, fresh, kind_of, nothing, put, put_all, solid, tab}
+use Rattle.text_preserved.specs.Preserved.{taken, white, with_room, written}
+use Rattle.text_preserved.specs.Pass.{Pass, begins, entered, lettered, passes, read_all, read_at, read_letter}
+use Rattle.text_preserved.specs.Pass.{read_source}
+use Rattle.text_preserved.specs.Fronts.{BeginsSolid, Fits, IsSteady, JoinsBody, all_lettered, goes_on_with, has_wider}
+use Rattle.text_preserved.specs.Fronts.{run_lettered}
 use Rattle.text_preserved.proofs.ColumnLemmas.{lt_is_false, le_is_true}
 use Rattle.text_pieces.proofs.ItemColumns.{line_columns-append}
 
@@ -60,13 +60,13 @@ body_begun cs main further p q first is =
     ∙ ap (λ l. read_all p (sourced l main further)) (sym first.whole)
 
 -- what is left reads on to the same
-pub body_left : {S : Type 0} (here behind all : List ℕ) (main further : S) (p q : Pass S) → all ≡ here ++ behind
+pub body_left : {S : Type 0} (here trailing all : List ℕ) (main further : S) (p q : Pass S) → all ≡ here ++ trailing
     → p.begun ≡ true → JoinsBody p.width p.wraps here → q ≡ all_lettered here main further p
-    → read_all q (sourced behind main further) ≡ read_all p (sourced all main further)
-body_left here behind all main further p q whole is joins read =
-    ap (λ x. read_all x (sourced behind main further)) (read ∙ sym (body_read here main further p is joins))
-    ∙ sym (fold-append read_source p (sourced here main further) (sourced behind main further))
-    ∙ ap (read_all p) (sym (map-append (λ c. letter c main further) here behind))
+    → read_all q (sourced trailing main further) ≡ read_all p (sourced all main further)
+body_left here trailing all main further p q whole is joins read =
+    ap (λ x. read_all x (sourced trailing main further)) (read ∙ sym (body_read here main further p is joins))
+    ∙ sym (fold-append read_source p (sourced here main further) (sourced trailing main further))
+    ∙ ap (read_all p) (sym (map-append (λ c. letter c main further) here trailing))
     ∙ ap (λ cs. read_all p (sourced cs main further)) (sym whole)
 
 -- ---- characters that leave the tag as it is
@@ -93,9 +93,9 @@ one_stays c main further p stays =
       wide = p.wide || b;
     }) (sym (or_none (nat_lt p.width (width_of c))))
 
-run_behind : {S : Type 0} (c : ℕ) (cs : List ℕ) (tag : S) (p : Pass S)
+run_after : {S : Type 0} (c : ℕ) (cs : List ℕ) (tag : S) (p : Pass S)
     → run_lettered cs tag (run_lettered (c ∷ []) tag p) ≡ run_lettered (c ∷ cs) tag p
-run_behind c cs tag p =
+run_after c cs tag p =
     ap (λ items. record p {
       word = items;
       wide = (p.wide || (nat_lt p.width (width_of c) || false)) || has_wider p.width cs;
@@ -122,7 +122,7 @@ steady_on [] p h main further = no_run p (chosen p.goes_on main further)
 steady_on (c ∷ cs) p h main further =
     ap (all_lettered cs main further) (one_stays c main further p (still_on c p h))
     ∙ steady_on cs (run_lettered (c ∷ []) (chosen p.goes_on main further) p) h main further
-    ∙ run_behind c cs (chosen p.goes_on main further) p
+    ∙ run_after c cs (chosen p.goes_on main further) p
 
 stays_off : (on wraps wide : Bool) → on ≡ false → wide ≡ false → (on || (not wraps && wide)) ≡ on
 stays_off true wraps wide h f = cc
@@ -146,7 +146,7 @@ steady_within (c ∷ cs) p off fits main further =
     let alone = sum_by-cons width_of c [] in
     ap (all_lettered cs main further) (one_stays c main further p (within c p off (omega (arith, fits, both))))
     ∙ steady_within cs (run_lettered (c ∷ []) tag p) off (omega (arith, fits, both, one, alone)) main further
-    ∙ run_behind c cs tag p
+    ∙ run_after c cs tag p
 
 pub steady_front : {S : Type 0} (cs : List ℕ) (p : Pass S) → p.goes_on ≡ false
     → Fits p.width (taken p.rows + line_columns p.word) cs → IsSteady cs p
@@ -156,12 +156,12 @@ steady_front cs p off (inl none) main further =
 steady_front cs p off (inr fits) main further = steady_within cs p off fits main further
 
 -- what is left comes to the same
-pub letters_left : {S : Type 0} (here behind all : List ℕ) (main further : S) (p q : Pass S) → all ≡ here ++ behind
+pub letters_left : {S : Type 0} (here trailing all : List ℕ) (main further : S) (p q : Pass S) → all ≡ here ++ trailing
     → IsSteady here p → q ≡ run_lettered here (chosen p.goes_on main further) p
-    → all_lettered behind main further q ≡ all_lettered all main further p
-letters_left here behind all main further p q whole steady added =
-    ap (all_lettered behind main further) (added ∙ sym (steady main further))
-    ∙ sym (fold-append (λ x c. lettered c main further x) p here behind)
+    → all_lettered trailing main further q ≡ all_lettered all main further p
+letters_left here trailing all main further p q whole steady added =
+    ap (all_lettered trailing main further) (added ∙ sym (steady main further))
+    ∙ sym (fold-append (λ x c. lettered c main further x) p here trailing)
     ∙ ap (λ cs. all_lettered cs main further p) (sym whole)
 
 -- ---- characters that go on the line at hand
@@ -206,13 +206,13 @@ put_fitting width cs tag r none (inl empty) =
 put_fitting width cs tag r none (inr fits) = put_within width cs tag r none fits
 
 -- what is left comes to the same
-pub put_left : {S : Type 0} (width : ℕ) (here behind all : List ℕ) (tag : S) (r q : Laying S) → all ≡ here ++ behind
+pub put_left : {S : Type 0} (width : ℕ) (here trailing all : List ℕ) (tag : S) (r q : Laying S) → all ≡ here ++ trailing
     → r.tail ≡ [] → Fits width (line_columns r.line) here → q ≡ record r { line = r.line ++ tagged here tag }
-    → put_all width q (tagged behind tag) ≡ put_all width r (tagged all tag)
-put_left width here behind all tag r q whole none fits added =
-    ap (λ x. put_all width x (tagged behind tag)) (added ∙ sym (put_fitting width here tag r none fits))
-    ∙ sym (fold-append (put width) r (tagged here tag) (tagged behind tag))
-    ∙ ap (put_all width r) (sym (map-append (λ c. character c tag) here behind))
+    → put_all width q (tagged trailing tag) ≡ put_all width r (tagged all tag)
+put_left width here trailing all tag r q whole none fits added =
+    ap (λ x. put_all width x (tagged trailing tag)) (added ∙ sym (put_fitting width here tag r none fits))
+    ∙ sym (fold-append (put width) r (tagged here tag) (tagged trailing tag))
+    ∙ ap (put_all width r) (sym (map-append (λ c. character c tag) here trailing))
     ∙ ap (λ cs. put_all width r (tagged cs tag)) (sym whole)
 
 -- ---- small steps

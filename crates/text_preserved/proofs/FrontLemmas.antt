@@ -1,6 +1,6 @@
 -- Fronts of texts.
-use Rattle.std.proofs.Common.{◌≡◌, ℕ, ◌+◌, ◌-◌, ◌<◌, ◌≤◌, Bool, true, false, List, [], ◌∷◌, ◌++◌, sym, ap, ◌∙◌, refl}
-use Rattle.std.proofs.Common.{subst, append_assoc, arith, inr, chars, encode_utf8}
+use Rattle.std.proofs.Common.{◌≡◌, ◌+◌, ◌-◌, ◌<◌, ◌≤◌, [], ◌∷◌, ◌++◌, ◌∙◌, Bool, List, ap, append_assoc, arith, chars}
+use Rattle.std.proofs.Common.{encode_utf8, false, inr, refl, subst, sym, true, ℕ}
 use Rattle.std.specs.Prelude.{◌||◌, nat_lt, Option, None, Some, IfSome, unwrap_or}
 use Rattle.std.specs.Char.{IsScalar}
 use Rattle.std.proofs.lemmas.List.Sums.{sum_by-append, sum_by-cons}
@@ -90,8 +90,8 @@ pub wider_here : (width c : ℕ) (cs all : List ℕ) → all ≡ c ∷ cs → wi
 wider_here width c cs all whole h =
     ap (has_wider width) whole ∙ or_true (nat_lt width (width_of c)) (has_wider width cs) (grind (arith, nat_tests))
 
-pub wider_behind : (width c : ℕ) (cs all : List ℕ) → all ≡ c ∷ cs → width_of c ≤ width
+pub wider_after : (width c : ℕ) (cs all : List ℕ) → all ≡ c ∷ cs → width_of c ≤ width
     → has_wider width cs ≡ has_wider width all
-wider_behind width c cs all whole h =
+wider_after width c cs all whole h =
     sym (ap (has_wider width) whole
     ∙ or_false (nat_lt width (width_of c)) (has_wider width cs) (not_below width (width_of c) h))

@@ -1,6 +1,6 @@
 -- White space aside, the characters of the lines are those of the source line that have a width.
-use Rattle.std.proofs.Common.{◌≡◌, ℕ, Bool, true, false, List, [], ◌∷◌, ◌++◌, filter, flat_map, fold, if◌then◌else◌}
-use Rattle.std.proofs.Common.{refl, sym, ap, ◌∙◌, append-nil, arith}
+use Rattle.std.proofs.Common.{◌≡◌, [], ◌∷◌, ◌++◌, if◌then◌else◌, ◌∙◌, Bool, List, ap, append-nil, arith, false, filter}
+use Rattle.std.proofs.Common.{flat_map, fold, refl, sym, true, ℕ}
 use Rattle.std.specs.Prelude.{not, is_some, ◌==◌, ◌&&◌, ◌||◌}
 use Rattle.std.proofs.lemmas.Bool.{cond_both}
 use Rattle.std.proofs.lemmas.Bool.Decides.{nat_tests}
@@ -8,9 +8,9 @@ use Rattle.std.proofs.lemmas.List.Elements.{filter-append}
 use Rattle.text_lines.specs.Columns.{columns_of}
 use Rattle.text_lines.specs.Tagged.{Item, character, marker, characters}
 use Rattle.text_pieces.specs.Sources.{Source, letter, fragment, is_white_space}
-use Rattle.text_preserved.specs.Preserved.{solid, white, tab, cut, nothing, kind_of, is_solid, Laying, nothing_laid}
-use Rattle.text_preserved.specs.Preserved.{has_text, line_text, fresh, lay_part, parts, preserved_lines, trimmed}
-use Rattle.text_preserved.specs.Preserved.{is_begun, word_at, goes_over_white, word_behind}
+use Rattle.text_preserved.specs.Preserved.{Laying, cut, fresh, goes_over_white, has_text, is_begun, is_solid, kind_of}
+use Rattle.text_preserved.specs.Preserved.{lay_part, line_text, nothing, nothing_laid, parts, preserved_lines, solid}
+use Rattle.text_preserved.specs.Preserved.{tab, trimmed, white, word_after, word_at}
 use Rattle.text_preserved.specs.LawWords.{is_shown, codes_of}
 use Rattle.text_pieces.proofs.ItemColumns.{no_characters}
 use Rattle.text_preserved.proofs.LayingKept.{IsSeen, laid_seen}
@@ -102,7 +102,7 @@ not_begun (letter c main further ∷ word) e = cc
 not_begun (fragment name ∷ word) e = not_begun word e
 
 waiting_is_textless : {S : Type 0} (w : ℕ) (wraps : Bool) (word line : List (Source S))
-    → codes_of (word_behind w wraps word line) ≡ []
+    → codes_of (word_after w wraps word line) ≡ []
 waiting_is_textless w wraps word [] =
     cond_both (is_begun word) [] word (λ xs. codes_of xs ≡ []) (λ e. refl) (λ e. not_begun word e)
 waiting_is_textless w wraps word (letter c main further ∷ rest) =
@@ -114,7 +114,7 @@ pub lines_show_each_character : {S : Type 0} (w : ℕ) (wraps : Bool) (line : Li
 unfolding preserved_lines
 lines_show_each_character {S = S} w wraps line =
     let before : Laying S = fold (lay_part w wraps) nothing_laid (parts w wraps line) in
-    let waiting : List (Source S) = word_behind w wraps [] (trimmed w wraps line) in
+    let waiting : List (Source S) = word_after w wraps [] (trimmed w wraps line) in
     let lines : List ℕ = flat_map (λ items. flat_map item_shown items) (fresh before).done in
     let at_hand : flat_map item_shown (fresh before).line ≡ [] = items_one_by_one (fresh before).line
     ∙ ap (filter is_shown) (fresh_is_textless before) in

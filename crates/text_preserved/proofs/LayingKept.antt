@@ -1,21 +1,21 @@
 -- What laying a source line keeps, for anything that is seen item by item and not of spaces: its characters that are
 -- shown, and its markers.
-use Rattle.std.proofs.Common.{◌≡◌, ℕ, ◌+◌, ◌-◌, ◌%◌, Bool, true, false, List, [], ◌∷◌, ◌++◌, fold, flat_map, replicate}
-use Rattle.std.proofs.Common.{if◌then◌else◌, refl, sym, ap, subst, ◌∙◌, append_assoc, append-nil}
+use Rattle.std.proofs.Common.{◌≡◌, ◌+◌, ◌-◌, ◌%◌, [], ◌∷◌, ◌++◌, if◌then◌else◌, ◌∙◌, Bool, List, ap, append-nil}
+use Rattle.std.proofs.Common.{append_assoc, false, flat_map, fold, refl, replicate, subst, sym, true, ℕ}
 use Rattle.std.specs.Prelude.{◌==◌, ◌||◌, nat_le, nat_lt}
 use Rattle.std.proofs.lemmas.Bool.{cond_both}
 use Rattle.std.proofs.lemmas.Grind.{flat_map-append}
 use Rattle.text_lines.specs.Columns.{width_of}
 use Rattle.text_lines.specs.Tagged.{Item, character, marker, line_columns}
 use Rattle.text_pieces.specs.Sources.{Source, letter, fragment}
-use Rattle.text_preserved.specs.Preserved.{Kind, solid, white, tab, cut, nothing, kind_of, is_solid, has_solid, trimmed}
-use Rattle.text_preserved.specs.Preserved.{Part, blank, stop, body, ended_word, is_begun, waiting_word, parts_at}
-use Rattle.text_preserved.specs.Preserved.{word_at, goes_over_white, parts_behind, word_behind, parts, Laying}
-use Rattle.text_preserved.specs.Preserved.{nothing_laid, space, chosen, has_text, line_text, line_taken, fresh}
-use Rattle.text_preserved.specs.Preserved.{with_room, written, without_spaces, item_columns, put, put_all, put_space}
-use Rattle.text_preserved.specs.Preserved.{lay_blank, to_stop, behind_stop, lay_stop, taken, Tagging, tag_one}
-use Rattle.text_preserved.specs.Preserved.{tagged_body, remaining, broken_anywhere, broken_at_white, lay_items}
-use Rattle.text_preserved.specs.Preserved.{lay_body, lay_part, laid}
+use Rattle.text_preserved.specs.Preserved.{Kind, Laying, Part, Tagging, after_stop, blank, body, broken_anywhere}
+use Rattle.text_preserved.specs.Preserved.{broken_at_white, chosen, cut, ended_word, fresh, goes_over_white, has_solid}
+use Rattle.text_preserved.specs.Preserved.{has_text, is_begun, is_solid, item_columns, kind_of, laid, lay_blank}
+use Rattle.text_preserved.specs.Preserved.{lay_body, lay_items, lay_part, lay_stop, line_taken, line_text, nothing}
+use Rattle.text_preserved.specs.Preserved.{nothing_laid, parts, parts_after, parts_at, put, put_all, put_space}
+use Rattle.text_preserved.specs.Preserved.{remaining, solid, space, stop, tab, tag_one, tagged_body, taken, to_stop}
+use Rattle.text_preserved.specs.Preserved.{trimmed, waiting_word, white, with_room, without_spaces, word_after, word_at}
+use Rattle.text_preserved.specs.Preserved.{written}
 use Rattle.text_preserved.proofs.ColumnLemmas.{AreSpaces, AreSpaces-append, AreSpaces-replicate, AreSpaces-drop}
 
 -- What is seen of an item is what is seen of its source; nothing is, of spaces and of what stands in no body.
@@ -44,9 +44,9 @@ unseen f (character c tag ∷ items) none are =
     ap (λ xs. xs ++ flat_map f items) (ap (λ c. f (character c tag)) are.0 ∙ none tag) ∙ unseen f items none are.1
 unseen f (marker name ∷ items) none are = absurd are.0
 
-unseen_behind : {S X : Type 0} (f : Item S → List X) (line tail : List (Item S))
+unseen_after : {S X : Type 0} (f : Item S → List X) (line tail : List (Item S))
     → ((tag : S) → f (character 0x20 tag) ≡ []) → AreSpaces tail → flat_map f (line ++ tail) ≡ flat_map f line
-unseen_behind f line tail none are = flat_map-append f line tail
+unseen_after f line tail none are = flat_map-append f line tail
     ∙ ap (λ xs. flat_map f line ++ xs) (unseen f tail none are) ∙ append-nil (flat_map f line)
 
 -- ---- steps of laying
@@ -60,7 +60,7 @@ freshened f none xs r h =
       seen = append-nil (flat_map (λ items. flat_map f items) (r.done ++ line_text r ∷ []))
           ∙ flat_map-append (λ items. flat_map f items) r.done (line_text r ∷ [])
           ∙ ap (λ ys. flat_map (λ items. flat_map f items) r.done ++ ys)
-          (append-nil (flat_map f (line_text r)) ∙ unseen_behind f r.line r.tail none h.tail) ∙ h.seen;
+          (append-nil (flat_map f (line_text r)) ∙ unseen_after f r.line r.tail none h.tail) ∙ h.seen;
       tail = tt;
       spaces = h.spaces;
     })
@@ -75,7 +75,7 @@ written_seen : {S X : Type 0} (f : Item S → List X) (none : (tag : S) → f (c
     (r : Laying S) (items : List (Item S)) → HasSeen f xs r → HasSeen f (xs ++ flat_map f items) (written r items)
 written_seen f none xs r items h = record {
   seen = ap (λ ys. flat_map (λ items. flat_map f items) r.done ++ ys) (flat_map-append f (line_text r) items
-      ∙ ap (λ ys. ys ++ flat_map f items) (unseen_behind f r.line r.tail none h.tail))
+      ∙ ap (λ ys. ys ++ flat_map f items) (unseen_after f r.line r.tail none h.tail))
       ∙ sym (append_assoc (flat_map (λ items. flat_map f items) r.done) (flat_map f r.line) (flat_map f items))
       ∙ ap (λ ys. ys ++ flat_map f items) h.seen;
   tail = tt;
@@ -118,9 +118,9 @@ blank_seen f xs n main further r h = record {
       (AreSpaces-replicate n (chosen r.goes_on main further));
 }
 
-behind_stop_seen : {S X : Type 0} (w : ℕ) (f : Item S → List X) (none : (tag : S) → f (character 0x20 tag) ≡ [])
-    (xs : List X) (r : Laying S) → HasSeen f xs r → HasSeen f xs (behind_stop w r)
-behind_stop_seen w f none xs r h =
+after_stop_seen : {S X : Type 0} (w : ℕ) (f : Item S → List X) (none : (tag : S) → f (character 0x20 tag) ≡ [])
+    (xs : List X) (r : Laying S) → HasSeen f xs r → HasSeen f xs (after_stop w r)
+after_stop_seen w f none xs r h =
     cond_both (nat_lt (line_taken r) w || (line_taken r % 8 == 0)) r (fresh r) (HasSeen f xs) (λ e. h)
     (λ e. freshened f none xs r h)
 
@@ -131,7 +131,7 @@ stop_seen {S = S} w f none xs main further r h =
     let tag : S = chosen r.goes_on main further in
     let k : HasSeen f xs room = roomed w 1 f none xs (fold (put_space w) (without_spaces r) r.spaces)
     (put_spaces_seen w f none xs (without_spaces r) r.spaces (without_spaces_seen f xs r h) h.spaces) in
-    behind_stop_seen w f none xs
+    after_stop_seen w f none xs
     (record room { tail = room.tail ++ replicate (to_stop w (line_taken room)) (space tag) })
     (tail_seen f xs room (replicate (to_stop w (line_taken room)) (space tag)) k
     (AreSpaces-replicate (to_stop w (line_taken room)) tag))
@@ -255,9 +255,9 @@ ended_or_waits : {S X : Type 0} (g : Source S → List X) (word : List (Source S
     ++ flat_map g (waiting_word word) ≡ flat_map g word
 ended_or_waits g word = ended_or_waits_by g (is_begun word) word
 
-ended_behind : {S X : Type 0} (g : Source S → List X) (word : List (Source S)) (p : Part S) → seen_in g (p ∷ []) ≡ []
+ended_after : {S X : Type 0} (g : Source S → List X) (word : List (Source S)) (p : Part S) → seen_in g (p ∷ []) ≡ []
     → seen_in g (ended_word word ++ p ∷ []) ++ flat_map g (waiting_word word) ≡ flat_map g word
-ended_behind g word p none =
+ended_after g word p none =
     ap (λ ys. ys ++ flat_map g (waiting_word word)) (seen_in-append g (ended_word word) (p ∷ [])
     ∙ ap (λ ys. seen_in g (ended_word word) ++ ys) none ∙ append-nil (seen_in g (ended_word word)))
     ∙ ended_or_waits g word
@@ -275,9 +275,9 @@ one_seen : {S X : Type 0} (g : Source S → List X) (k : Kind) (inside : Bool) (
     ≡ flat_map g word ++ g (letter c main further)
 one_seen g solid inside c main further word others = more_seen g word (letter c main further)
 one_seen g white true c main further word others = more_seen g word (letter c main further)
-one_seen g white false c main further word others = ended_behind g word (blank (width_of c) main further) refl
+one_seen g white false c main further word others = ended_after g word (blank (width_of c) main further) refl
     ∙ unseen_letter (flat_map g word) (g (letter c main further)) (others refl)
-one_seen g tab inside c main further word others = ended_behind g word (stop main further) refl
+one_seen g tab inside c main further word others = ended_after g word (stop main further) refl
     ∙ unseen_letter (flat_map g word) (g (letter c main further)) (others refl)
 one_seen g cut inside c main further word others = ended_or_waits g word
     ∙ unseen_letter (flat_map g word) (g (letter c main further)) (others refl)
@@ -287,7 +287,7 @@ one_seen g nothing inside c main further word others =
 -- what is seen of a source line is seen in its bodies, or waits
 parts_seen : {S X : Type 0} (w : ℕ) (wraps : Bool) (f : Item S → List X) (g : Source S → List X)
     (word line : List (Source S)) → IsSeen w wraps f g
-    → seen_in g (parts_behind w wraps word line) ++ flat_map g (word_behind w wraps word line)
+    → seen_in g (parts_after w wraps word line) ++ flat_map g (word_after w wraps word line)
     ≡ flat_map g word ++ flat_map g line
 parts_seen w wraps f g word [] is = ended_or_waits g word ∙ sym (append-nil (flat_map g word))
 parts_seen {S = S} w wraps f g word (letter c main further ∷ rest) is =
@@ -295,9 +295,9 @@ parts_seen {S = S} w wraps f g word (letter c main further ∷ rest) is =
     let inside : Bool = goes_over_white wraps word in
     let next : List (Source S) = word_at k inside c main further word in
     let here : List (Part S) = parts_at k inside c main further word in
-    ap (λ ys. ys ++ flat_map g (word_behind w wraps next rest)) (seen_in-append g here (parts_behind w wraps next rest))
-    ∙ append_assoc (seen_in g here) (seen_in g (parts_behind w wraps next rest))
-    (flat_map g (word_behind w wraps next rest))
+    ap (λ ys. ys ++ flat_map g (word_after w wraps next rest)) (seen_in-append g here (parts_after w wraps next rest))
+    ∙ append_assoc (seen_in g here) (seen_in g (parts_after w wraps next rest))
+    (flat_map g (word_after w wraps next rest))
     ∙ ap (λ ys. seen_in g here ++ ys) (parts_seen w wraps f g next rest is)
     ∙ sym (append_assoc (seen_in g here) (flat_map g next) (flat_map g rest))
     ∙ ap (λ ys. ys ++ flat_map g rest) (one_seen g k inside c main further word (is.others c main further))
@@ -329,10 +329,10 @@ trimmed_seen w wraps f g (fragment name ∷ rest) is = ap (λ ys. g (fragment na
 pub laid_seen : {S X : Type 0} (w : ℕ) (wraps : Bool) (f : Item S → List X) (g : Source S → List X)
     (line : List (Source S)) → IsSeen w wraps f g
     → flat_map (λ items. flat_map f items) (laid w wraps line).done ++ (flat_map f (laid w wraps line).line
-    ++ flat_map g (word_behind w wraps [] (trimmed w wraps line))) ≡ flat_map g line
+    ++ flat_map g (word_after w wraps [] (trimmed w wraps line))) ≡ flat_map g line
 laid_seen {S = S} w wraps f g line is =
     let before : Laying S = fold (lay_part w wraps) nothing_laid (parts w wraps line) in
-    let waiting : List (Source S) = word_behind w wraps [] (trimmed w wraps line) in
+    let waiting : List (Source S) = word_after w wraps [] (trimmed w wraps line) in
     let h : HasSeen f (seen_in g (parts w wraps line)) (fresh before) =
     freshened f is.spaces (seen_in g (parts w wraps line)) before
     (all_seen w wraps f g [] nothing_laid (parts w wraps line) is (record { seen = refl; tail = tt; spaces = tt })) in

@@ -2,8 +2,8 @@
 use Rattle.std.proofs.Common.{◌≡◌, ℕ, Bool, List, [], ◌∷◌, ◌++◌, flat_map, refl, sym, ap, ◌∙◌}
 use Rattle.text_lines.specs.Tagged.{Item, character, marker}
 use Rattle.text_pieces.specs.Sources.{Source, letter, fragment}
-use Rattle.text_preserved.specs.Preserved.{laid, preserved_lines, preserved_waiting, markers_of, names_of, trimmed}
-use Rattle.text_preserved.specs.Preserved.{word_behind}
+use Rattle.text_preserved.specs.Preserved.{laid, markers_of, names_of, preserved_lines, preserved_waiting, trimmed}
+use Rattle.text_preserved.specs.Preserved.{word_after}
 use Rattle.text_preserved.proofs.LayingKept.{IsSeen, laid_seen}
 
 -- markers and names, item by item
@@ -43,7 +43,7 @@ pub lines_keep_markers : {S : Type 0} (w : ℕ) (wraps : Bool) (line : List (Sou
     → flat_map (markers_of {S = S}) (preserved_lines w wraps line) ++ preserved_waiting w wraps line ≡ names_of line
 unfolding preserved_lines preserved_waiting
 lines_keep_markers {S = S} w wraps line =
-    let waiting : List (Source S) = word_behind w wraps [] (trimmed w wraps line) in
+    let waiting : List (Source S) = word_after w wraps [] (trimmed w wraps line) in
     sym (ap (λ names. names ++ (flat_map item_markers (laid w wraps line).line ++ flat_map source_names waiting))
     (lines_one_by_one (laid w wraps line).done)
     ∙ ap (λ names. flat_map (markers_of {S = S}) (laid w wraps line).done ++ (names ++ flat_map source_names waiting))

@@ -1,18 +1,18 @@
 -- A source line of shown characters and spaces that fits the width is itself.
-use Rattle.std.proofs.Common.{◌≡◌, ◌⊎◌, ℕ, ◌+◌, ◌≤◌, inl, inr, Bool, true, false, List, [], ◌∷◌, ◌++◌, fold, replicate}
-use Rattle.std.proofs.Common.{if◌then◌else◌, refl, sym, ap, subst, ◌∙◌, append_assoc, append-nil, arith}
+use Rattle.std.proofs.Common.{◌≡◌, ◌⊎◌, ◌+◌, ◌≤◌, [], ◌∷◌, ◌++◌, if◌then◌else◌, ◌∙◌, Bool, List, ap, append-nil}
+use Rattle.std.proofs.Common.{append_assoc, arith, false, fold, inl, inr, refl, replicate, subst, sym, true, ℕ}
 use Rattle.std.specs.Prelude.{not, is_some, ◌==◌, ◌&&◌, ◌||◌, nat_le, nat_lt}
 use Rattle.std.proofs.lemmas.Bool.{cond_both, cond-true}
 use Rattle.std.proofs.lemmas.Bool.Decides.{nat_tests}
 use Rattle.text_lines.specs.Columns.{columns_of, columns_of-one, width_of}
 use Rattle.text_lines.specs.Tagged.{Item, character, marker, line_columns}
 use Rattle.text_pieces.specs.Sources.{Source, letter, fragment}
-use Rattle.text_preserved.specs.Preserved.{solid, white, cut, nothing, kind_of, is_solid, has_solid, trimmed, is_begun}
-use Rattle.text_preserved.specs.Preserved.{Part, blank, body, ended_word, waiting_word}
-use Rattle.text_preserved.specs.Preserved.{parts_at, word_at, goes_over_white, parts_behind, Laying, space, fresh}
-use Rattle.text_preserved.specs.Preserved.{with_room, written, without_spaces, lay_blank, taken, line_taken, Tagging}
-use Rattle.text_preserved.specs.Preserved.{tag_one, tagged_body, put_all, broken_anywhere, broken_at_white, lay_items}
-use Rattle.text_preserved.specs.Preserved.{lay_body, lay_part, preserved_lines}
+use Rattle.text_preserved.specs.Preserved.{Laying, Part, Tagging, blank, body, broken_anywhere, broken_at_white, cut}
+use Rattle.text_preserved.specs.Preserved.{ended_word, fresh, goes_over_white, has_solid, is_begun, is_solid, kind_of}
+use Rattle.text_preserved.specs.Preserved.{lay_blank, lay_body, lay_items, lay_part, line_taken, nothing, parts_after}
+use Rattle.text_preserved.specs.Preserved.{parts_at, preserved_lines, put_all, solid, space, tag_one, tagged_body}
+use Rattle.text_preserved.specs.Preserved.{taken, trimmed, waiting_word, white, with_room, without_spaces, word_at}
+use Rattle.text_preserved.specs.Preserved.{written}
 use Rattle.text_preserved.specs.LawWords.{ArePlain, source_columns, as_it_stands, one_line}
 use Rattle.text_preserved.proofs.ColumnLemmas.{le_is_true, lt_is_false, width_of-space}
 use Rattle.text_pieces.proofs.ItemColumns.{line_columns-append, line_columns-cons}
@@ -129,7 +129,7 @@ abbrev IsLaidPlainly : {S : Type 0} → ℕ → Bool → List (Source S) → Typ
 IsLaidPlainly {S = S} w wraps rest = (line spaces : List (Item S)) (word : List (Source S)) → IsReady word
     → line_columns line + line_columns spaces + source_columns word + source_columns rest ≤ w
     → (is_begun word ≡ false → has_solid w wraps rest ≡ false → spaces ≡ [])
-    → fold (lay_part w wraps) (at_hand line spaces) (parts_behind w wraps word rest)
+    → fold (lay_part w wraps) (at_hand line spaces) (parts_after w wraps word rest)
     ≡ at_hand (line ++ (spaces ++ (shown word ++ as_it_stands rest))) []
 
 -- a word that has begun is a body, and nothing waits
@@ -154,7 +154,7 @@ end_laid w wraps line spaces word (inr begun) fits ends =
 on_word : {S : Type 0} (w : ℕ) (wraps : Bool) (c : ℕ) (main further : S) (rest : List (Source S))
     → IsLaidPlainly w wraps rest → (line spaces : List (Item S)) (word : List (Source S))
     → line_columns line + line_columns spaces + source_columns word + (width_of c + source_columns rest) ≤ w
-    → fold (lay_part w wraps) (at_hand line spaces) (parts_behind w wraps (word ++ letter c main further ∷ []) rest)
+    → fold (lay_part w wraps) (at_hand line spaces) (parts_after w wraps (word ++ letter c main further ∷ []) rest)
     ≡ at_hand (line ++ (spaces ++ (shown word ++ character c main ∷ as_it_stands rest))) []
 on_word w wraps c main further rest more line spaces word fits =
     more line spaces (word ++ letter c main further ∷ []) (inr (begun-push word c main further))
@@ -164,14 +164,14 @@ on_word w wraps c main further rest more line spaces word fits =
     ∙ append_assoc (shown word) (character c main ∷ []) (as_it_stands rest))
 
 -- a space waits after the word
-behind_nothing : {S : Type 0} (w : ℕ) (wraps : Bool) (main further : S) (rest : List (Source S))
+after_nothing : {S : Type 0} (w : ℕ) (wraps : Bool) (main further : S) (rest : List (Source S))
     → IsLaidPlainly w wraps rest → has_solid w wraps rest ≡ true → (line spaces : List (Item S))
     → line_columns line + line_columns spaces + (1 + source_columns rest) ≤ w
     → fold (lay_part w wraps) (at_hand line spaces) (parts_at white false 0x20 main further []
-    ++ parts_behind w wraps (word_at white false 0x20 main further []) rest)
+    ++ parts_after w wraps (word_at white false 0x20 main further []) rest)
     ≡ at_hand (line ++ (spaces ++ space main ∷ as_it_stands rest)) []
-behind_nothing {S = S} w wraps main further rest more has line spaces fits =
-    ap (λ n. fold (lay_part w wraps) (at_hand line (spaces ++ replicate n (space main))) (parts_behind w wraps [] rest))
+after_nothing {S = S} w wraps main further rest more has line spaces fits =
+    ap (λ n. fold (lay_part w wraps) (at_hand line (spaces ++ replicate n (space main))) (parts_after w wraps [] rest))
     width_of-space
     ∙ more line (spaces ++ space main ∷ []) [] (inl refl) (omega (
       arith,
@@ -181,23 +181,23 @@ behind_nothing {S = S} w wraps main further rest more has line spaces fits =
     )) (λ no none. cc)
     ∙ ap (λ xs. at_hand (line ++ xs) []) (append_assoc spaces (space main ∷ []) (as_it_stands rest))
 
-behind_begun : {S : Type 0} (w : ℕ) (wraps : Bool) (main further : S) (rest : List (Source S))
+after_begun : {S : Type 0} (w : ℕ) (wraps : Bool) (main further : S) (rest : List (Source S))
     → IsLaidPlainly w wraps rest → has_solid w wraps rest ≡ true → (line spaces : List (Item S))
     (word : List (Source S)) → is_begun word ≡ true
     → line_columns line + line_columns spaces + source_columns word + (1 + source_columns rest) ≤ w
     → fold (lay_part w wraps) (at_hand line spaces) (parts_at white false 0x20 main further word
-    ++ parts_behind w wraps (word_at white false 0x20 main further word) rest)
+    ++ parts_after w wraps (word_at white false 0x20 main further word) rest)
     ≡ at_hand (line ++ (spaces ++ (shown word ++ space main ∷ as_it_stands rest))) []
-behind_begun {S = S} w wraps main further rest more has line spaces word begun fits =
+after_begun {S = S} w wraps main further rest more has line spaces word begun fits =
     let items : List (Item S) = line ++ (spaces ++ shown word) in
     let gap : Part S = blank (width_of 0x20) main further in
     ap (λ ps. fold (lay_part w wraps) (at_hand line spaces)
-    ((ps ++ gap ∷ []) ++ parts_behind w wraps (waiting_word word) rest)) (ended_is word begun)
+    ((ps ++ gap ∷ []) ++ parts_after w wraps (waiting_word word) rest)) (ended_is word begun)
     ∙ ap (λ left. fold (lay_part w wraps) (lay_blank (width_of 0x20) main further
-    (lay_body w wraps word (at_hand line spaces))) (parts_behind w wraps left rest)) (waits_not word begun)
-    ∙ ap (λ r. fold (lay_part w wraps) (lay_blank (width_of 0x20) main further r) (parts_behind w wraps [] rest))
+    (lay_body w wraps word (at_hand line spaces))) (parts_after w wraps left rest)) (waits_not word begun)
+    ∙ ap (λ r. fold (lay_part w wraps) (lay_blank (width_of 0x20) main further r) (parts_after w wraps [] rest))
     (body_fits w wraps line spaces word (omega arith))
-    ∙ ap (λ n. fold (lay_part w wraps) (at_hand items (replicate n (space main))) (parts_behind w wraps [] rest))
+    ∙ ap (λ n. fold (lay_part w wraps) (at_hand items (replicate n (space main))) (parts_after w wraps [] rest))
     width_of-space
     ∙ more items (space main ∷ []) [] (inl refl) (omega (
       arith,
@@ -211,23 +211,23 @@ behind_begun {S = S} w wraps main further rest more has line spaces word begun f
     (space main ∷ as_it_stands rest) ∙ ap (λ xs. line ++ xs) (append_assoc spaces
     (shown word) (space main ∷ as_it_stands rest)))
 
-behind_word : {S : Type 0} (w : ℕ) (wraps : Bool) (main further : S) (rest : List (Source S))
+rest_after_word : {S : Type 0} (w : ℕ) (wraps : Bool) (main further : S) (rest : List (Source S))
     → IsLaidPlainly w wraps rest → has_solid w wraps rest ≡ true → (inside : Bool) (line spaces : List (Item S))
     (word : List (Source S)) → IsReady word
     → line_columns line + line_columns spaces + source_columns word + (1 + source_columns rest) ≤ w
     → fold (lay_part w wraps) (at_hand line spaces) (parts_at white inside 0x20 main further word
-    ++ parts_behind w wraps (word_at white inside 0x20 main further word) rest)
+    ++ parts_after w wraps (word_at white inside 0x20 main further word) rest)
     ≡ at_hand (line ++ (spaces ++ (shown word ++ space main ∷ as_it_stands rest))) []
-behind_word w wraps main further rest more has true line spaces word ready fits =
+rest_after_word w wraps main further rest more has true line spaces word ready fits =
     on_word w wraps 0x20 main further rest more line spaces word (omega (arith, width_of-space))
-behind_word w wraps main further rest more has false line spaces word (inl empty) fits =
+rest_after_word w wraps main further rest more has false line spaces word (inl empty) fits =
     ap (λ xs. fold (lay_part w wraps) (at_hand line spaces) (parts_at white false 0x20 main further xs
-    ++ parts_behind w wraps (word_at white false 0x20 main further xs) rest)) empty
-    ∙ behind_nothing w wraps main further rest more has line spaces
+    ++ parts_after w wraps (word_at white false 0x20 main further xs) rest)) empty
+    ∙ after_nothing w wraps main further rest more has line spaces
     (omega (arith, ap (λ xs. source_columns xs) empty))
     ∙ sym (ap (λ xs. at_hand (line ++ (spaces ++ (shown xs ++ space main ∷ as_it_stands rest))) []) empty)
-behind_word w wraps main further rest more has false line spaces word (inr begun) fits =
-    behind_begun w wraps main further rest more has line spaces word begun fits
+rest_after_word w wraps main further rest more has false line spaces word (inr begun) fits =
+    after_begun w wraps main further rest more has line spaces word begun fits
 
 -- where there are columns, U+0020 is white space
 narrow_or : (is_narrow is_shown : Bool) (wraps : Bool) → is_narrow ≡ false → is_shown ≡ true
@@ -250,9 +250,9 @@ space_laid : {S : Type 0} (w : ℕ) (wraps : Bool) (main further : S) (rest : Li
 space_laid w wraps main further rest more has line spaces word ready fits ends =
     let is : kind_of w wraps 0x20 ≡ white = space_is_white w wraps (omega (arith, width_of-space)) in
     subst (λ k. fold (lay_part w wraps) (at_hand line spaces) (parts_at k (goes_over_white wraps word) 0x20 main
-    further word ++ parts_behind w wraps (word_at k (goes_over_white wraps word) 0x20 main further word) rest)
+    further word ++ parts_after w wraps (word_at k (goes_over_white wraps word) 0x20 main further word) rest)
     ≡ at_hand (line ++ (spaces ++ (shown word ++ space main ∷ as_it_stands rest))) []) (sym is)
-    (behind_word w wraps main further rest more (sym (ap (λ k. is_solid k || has_solid w wraps rest) is) ∙ has)
+    (rest_after_word w wraps main further rest more (sym (ap (λ k. is_solid k || has_solid w wraps rest) is) ∙ has)
     (goes_over_white wraps word) line spaces word ready (omega (arith, width_of-space)))
 
 plain_laid : {S : Type 0} (w : ℕ) (wraps : Bool) (rest : List (Source S)) → ArePlain w wraps rest
@@ -260,7 +260,7 @@ plain_laid : {S : Type 0} (w : ℕ) (wraps : Bool) (rest : List (Source S)) → 
 plain_laid w wraps [] plain ends = end_laid w wraps
 plain_laid w wraps (letter c main further ∷ rest) (inl is, plain) ends = λ line spaces word ready fits last.
     subst (λ k. fold (lay_part w wraps) (at_hand line spaces) (parts_at k (goes_over_white wraps word) c main
-    further word ++ parts_behind w wraps (word_at k (goes_over_white wraps word) c main further word) rest)
+    further word ++ parts_after w wraps (word_at k (goes_over_white wraps word) c main further word) rest)
     ≡ at_hand (line ++ (spaces ++ (shown word ++ character c main ∷ as_it_stands rest))) []) (sym is)
     (on_word w wraps c main further rest (plain_laid w wraps rest plain ends.1) line spaces word fits)
 plain_laid w wraps (letter c main further ∷ rest) (inr is, plain) ends =
@@ -336,9 +336,9 @@ a_marked_line_that_fits {S = S} w wraps name line c main further rest plain is s
     subst (ArePlain w wraps) is (trimmed_plain w wraps line plain) in
     let ends : IsTrimmed w wraps (letter c main further ∷ rest) =
     subst (IsTrimmed w wraps) is (trimmed_ends w wraps line) in
-    ap (λ xs. (fresh (fold (lay_part w wraps) (at_hand [] []) (parts_behind w wraps word xs))).done) is
+    ap (λ xs. (fresh (fold (lay_part w wraps) (at_hand [] []) (parts_after w wraps word xs))).done) is
     ∙ ap (λ k. (fresh (fold (lay_part w wraps) (at_hand [] []) (parts_at k (goes_over_white wraps word) c main further
-    word ++ parts_behind w wraps (word_at k (goes_over_white wraps word) c main further word) rest))).done) shows
+    word ++ parts_after w wraps (word_at k (goes_over_white wraps word) c main further word) rest))).done) shows
     ∙ ap (λ (r : Laying S). (fresh r).done)
     (on_word w wraps c main further rest (plain_laid w wraps rest plains.1 ends.1) [] [] word
     (omega (arith, ap (λ xs. source_columns xs) is)))

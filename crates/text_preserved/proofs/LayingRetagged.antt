@@ -1,6 +1,6 @@
 -- Tags have no say in how a source line is laid: the same letters under other tags stand on the same lines.
-use Rattle.std.proofs.Common.{◌≡◌, ℕ, ◌+◌, ◌-◌, ◌%◌, Bool, true, false, List, [], ◌∷◌, ◌++◌, map, drop, replicate, sym}
-use Rattle.std.proofs.Common.{ap, ◌∙◌, refl}
+use Rattle.std.proofs.Common.{◌≡◌, ◌+◌, ◌-◌, ◌%◌, [], ◌∷◌, ◌++◌, ◌∙◌, Bool, List, ap, drop, false, map, refl, replicate}
+use Rattle.std.proofs.Common.{sym, true, ℕ}
 use Rattle.std.specs.Prelude.{fold, if◌then◌else◌, not, ◌&&◌, ◌||◌, ◌==◌, nat_le, nat_lt}
 use Rattle.std.proofs.lemmas.List.{map-append}
 use Rattle.text_lines.specs.Columns.{width_of}
@@ -8,19 +8,17 @@ use Rattle.text_lines.specs.Tagged.{Item, character, marker, line_columns}
 use Rattle.text_pieces.specs.Items.{has_text, item_columns, markers_of}
 use Rattle.text_pieces.specs.Sources.{Source, letter, fragment, names_of}
 use Rattle.text_pieces.specs.Retagged.{reitem, resource}
-use Rattle.text_pieces.proofs.RetaggedItems.{chosen_by, folded, replicate_mapped, drop_mapped, line_columns_retagged}
-use Rattle.text_pieces.proofs.RetaggedItems.{has_text_retagged, item_columns_retagged, markers_retagged}
-use Rattle.text_pieces.proofs.RetaggedItems.{names_retagged}
-use Rattle.text_preserved.specs.Preserved.{Kind, solid, white, tab, cut, nothing, kind_of, is_solid, has_solid, trimmed}
-use Rattle.text_preserved.specs.Preserved.{Part, blank, stop, body, is_begun, ended_word, waiting_word, parts_at}
-use Rattle.text_preserved.specs.Preserved.{word_at, goes_over_white, parts_behind, word_behind, parts, Laying}
-use Rattle.text_preserved.specs.Preserved.{nothing_laid, space, chosen, line_text, line_taken, fresh, with_room}
+use Rattle.text_pieces.proofs.RetaggedItems.{chosen_by, drop_mapped, folded, has_text_retagged, item_columns_retagged}
+use Rattle.text_pieces.proofs.RetaggedItems.{line_columns_retagged, markers_retagged, names_retagged, replicate_mapped}
+use Rattle.text_preserved.specs.Preserved.{Kind, Laying, Part, Tagging, after_stop, blank, body, broken_anywhere}
+use Rattle.text_preserved.specs.Preserved.{broken_at_white, chosen, cut, ended_word, fresh, goes_over_white, has_solid}
+use Rattle.text_preserved.specs.Preserved.{has_wide_body, has_wide_letter, is_begun, is_solid, is_too_wide, kind_of}
+use Rattle.text_preserved.specs.Preserved.{laid, lay_blank, lay_body, lay_items, lay_part, lay_stop, line_taken}
+use Rattle.text_preserved.specs.Preserved.{line_text, nothing, nothing_laid, parts, parts_after, parts_at}
+use Rattle.text_preserved.specs.Preserved.{preserved_lines, preserved_waiting, put, put_all, put_space, remaining}
+use Rattle.text_preserved.specs.Preserved.{solid, space, stop, tab, tabbed, tag_one, tagged_body, taken, to_stop}
+use Rattle.text_preserved.specs.Preserved.{trimmed, waiting_word, white, with_room, without_spaces, word_after, word_at}
 use Rattle.text_preserved.specs.Preserved.{written}
-use Rattle.text_preserved.specs.Preserved.{without_spaces, put, put_all, put_space, lay_blank, to_stop, behind_stop}
-use Rattle.text_preserved.specs.Preserved.{tabbed, lay_stop, taken, Tagging, tag_one, tagged_body, remaining}
-use Rattle.text_preserved.specs.Preserved.{broken_anywhere, broken_at_white, lay_items, lay_body, lay_part, laid}
-use Rattle.text_preserved.specs.Preserved.{preserved_lines, preserved_waiting, has_wide_letter, has_wide_body}
-use Rattle.text_preserved.specs.Preserved.{is_too_wide}
 
 abbrev pub repart : {A B : Type 0} → (A → B) → Part A → Part B
 repart f (blank n main further) = blank n (f main) (f further)
@@ -105,47 +103,47 @@ over_retagged : {A B : Type 0} (f : A → B) (wraps : Bool) (word : List (Source
     → goes_over_white wraps (map (resource f) word) ≡ goes_over_white wraps word
 over_retagged f wraps word = ap (λ b. not wraps && b) (begun_retagged f word)
 
-behind_retagged : {A B : Type 0} (f : A → B) (w : ℕ) (wraps : Bool) (line word : List (Source A))
-    → parts_behind w wraps (map (resource f) word) (map (resource f) line)
-    ≡ map (repart f) (parts_behind w wraps word line)
-behind_retagged f w wraps [] word = ended_retagged f word
-behind_retagged f w wraps (letter c main further ∷ rest) word =
+after_retagged : {A B : Type 0} (f : A → B) (w : ℕ) (wraps : Bool) (line word : List (Source A))
+    → parts_after w wraps (map (resource f) word) (map (resource f) line)
+    ≡ map (repart f) (parts_after w wraps word line)
+after_retagged f w wraps [] word = ended_retagged f word
+after_retagged f w wraps (letter c main further ∷ rest) word =
     let k = kind_of w wraps c in
     let over = goes_over_white wraps word in
     let now = parts_at k over c main further word in
     let next = word_at k over c main further word in
-    ap (λ b. parts_at k b c (f main) (f further) (map (resource f) word) ++ parts_behind w wraps
+    ap (λ b. parts_at k b c (f main) (f further) (map (resource f) word) ++ parts_after w wraps
     (word_at k b c (f main) (f further) (map (resource f) word)) (map (resource f) rest)) (over_retagged f wraps word)
-    ∙ ap (λ ps. ps ++ parts_behind w wraps (word_at k over c (f main) (f further) (map (resource f) word))
+    ∙ ap (λ ps. ps ++ parts_after w wraps (word_at k over c (f main) (f further) (map (resource f) word))
     (map (resource f) rest)) (parts_at_retagged f k over c main further word)
-    ∙ ap (λ v. map (repart f) now ++ parts_behind w wraps v (map (resource f) rest))
+    ∙ ap (λ v. map (repart f) now ++ parts_after w wraps v (map (resource f) rest))
     (word_at_retagged f k over c main further word)
-    ∙ ap (λ ps. map (repart f) now ++ ps) (behind_retagged f w wraps rest next)
-    ∙ sym (map-append (repart f) now (parts_behind w wraps next rest))
-behind_retagged f w wraps (fragment name ∷ rest) word =
-    ap (λ v. parts_behind w wraps v (map (resource f) rest)) (sym (map-append (resource f) word (fragment name ∷ [])))
-    ∙ behind_retagged f w wraps rest (word ++ fragment name ∷ [])
+    ∙ ap (λ ps. map (repart f) now ++ ps) (after_retagged f w wraps rest next)
+    ∙ sym (map-append (repart f) now (parts_after w wraps next rest))
+after_retagged f w wraps (fragment name ∷ rest) word =
+    ap (λ v. parts_after w wraps v (map (resource f) rest)) (sym (map-append (resource f) word (fragment name ∷ [])))
+    ∙ after_retagged f w wraps rest (word ++ fragment name ∷ [])
 
-word_behind_retagged : {A B : Type 0} (f : A → B) (w : ℕ) (wraps : Bool) (line word : List (Source A))
-    → word_behind w wraps (map (resource f) word) (map (resource f) line)
-    ≡ map (resource f) (word_behind w wraps word line)
-word_behind_retagged f w wraps [] word = waiting_retagged f word
-word_behind_retagged f w wraps (letter c main further ∷ rest) word =
+word_after_retagged : {A B : Type 0} (f : A → B) (w : ℕ) (wraps : Bool) (line word : List (Source A))
+    → word_after w wraps (map (resource f) word) (map (resource f) line)
+    ≡ map (resource f) (word_after w wraps word line)
+word_after_retagged f w wraps [] word = waiting_retagged f word
+word_after_retagged f w wraps (letter c main further ∷ rest) word =
     let k = kind_of w wraps c in
     let over = goes_over_white wraps word in
-    ap (λ b. word_behind w wraps (word_at k b c (f main) (f further) (map (resource f) word)) (map (resource f) rest))
+    ap (λ b. word_after w wraps (word_at k b c (f main) (f further) (map (resource f) word)) (map (resource f) rest))
     (over_retagged f wraps word)
-    ∙ ap (λ v. word_behind w wraps v (map (resource f) rest)) (word_at_retagged f k over c main further word)
-    ∙ word_behind_retagged f w wraps rest (word_at k over c main further word)
-word_behind_retagged f w wraps (fragment name ∷ rest) word =
-    ap (λ v. word_behind w wraps v (map (resource f) rest)) (sym (map-append (resource f) word (fragment name ∷ [])))
-    ∙ word_behind_retagged f w wraps rest (word ++ fragment name ∷ [])
+    ∙ ap (λ v. word_after w wraps v (map (resource f) rest)) (word_at_retagged f k over c main further word)
+    ∙ word_after_retagged f w wraps rest (word_at k over c main further word)
+word_after_retagged f w wraps (fragment name ∷ rest) word =
+    ap (λ v. word_after w wraps v (map (resource f) rest)) (sym (map-append (resource f) word (fragment name ∷ [])))
+    ∙ word_after_retagged f w wraps rest (word ++ fragment name ∷ [])
 
 parts_retagged : {A B : Type 0} (f : A → B) (w : ℕ) (wraps : Bool) (line : List (Source A))
     → parts w wraps (map (resource f) line) ≡ map (repart f) (parts w wraps line)
 parts_retagged f w wraps line =
-    ap (parts_behind w wraps []) (trimmed_retagged f w wraps line)
-    ∙ behind_retagged f w wraps (trimmed w wraps line) []
+    ap (parts_after w wraps []) (trimmed_retagged f w wraps line)
+    ∙ after_retagged f w wraps (trimmed w wraps line) []
 
 -- ---- lines
 
@@ -200,13 +198,13 @@ tail_retagged f r items =
     ap (λ tail. made (map (map (reitem f)) r.done) (map (reitem f) r.line) tail (map (reitem f) r.spaces) r.goes_on)
     (sym (map-append (reitem f) r.tail items))
 
-abbrev behind_tail : {S : Type 0} → List (Item S) → Laying S → Laying S
-behind_tail items r = made r.done r.line (r.tail ++ items) r.spaces r.goes_on
+abbrev after_tail : {S : Type 0} → List (Item S) → Laying S → Laying S
+after_tail items r = made r.done r.line (r.tail ++ items) r.spaces r.goes_on
 
 put_space_retagged : {A B : Type 0} (f : A → B) (w : ℕ) (r : Laying A) (item : Item A)
     → put_space w (relay f r) (reitem f item) ≡ relay f (put_space w r item)
 put_space_retagged f w r item =
-    ap (behind_tail (reitem f item ∷ [])) (room_retagged f w 1 r) ∙ tail_retagged f (with_room w 1 r) (item ∷ [])
+    ap (after_tail (reitem f item ∷ [])) (room_retagged f w 1 r) ∙ tail_retagged f (with_room w 1 r) (item ∷ [])
 
 chosen_retagged : {A B : Type 0} (f : A → B) (goes_on : Bool) (main further : A)
     → chosen goes_on (f main) (f further) ≡ f (chosen goes_on main further)
@@ -225,9 +223,9 @@ blank_retagged f n main further r =
     ∙ ap (λ items. map (reitem f) r.spaces ++ items) (spaces_retagged f n (chosen r.goes_on main further))
     ∙ sym (map-append (reitem f) r.spaces (replicate n (space (chosen r.goes_on main further)))))
 
-behind_stop_retagged : {A B : Type 0} (f : A → B) (w : ℕ) (r : Laying A) → behind_stop w (relay f r)
-    ≡ relay f (behind_stop w r)
-behind_stop_retagged f w r =
+after_stop_retagged : {A B : Type 0} (f : A → B) (w : ℕ) (r : Laying A) → after_stop w (relay f r)
+    ≡ relay f (after_stop w r)
+after_stop_retagged f w r =
     chosen_by (relay f) (nat_lt (line_taken r) w || (line_taken r % 8 == 0))
     (nat_lt (line_taken (relay f r)) w || (line_taken (relay f r) % 8 == 0)) r (fresh r) (relay f r)
     (fresh (relay f r)) (ap (λ n. nat_lt n w || (n % 8 == 0)) (line_taken_retagged f r)) refl (fresh_retagged f r)
@@ -235,11 +233,11 @@ behind_stop_retagged f w r =
 tabbed_retagged : {A B : Type 0} (f : A → B) (w : ℕ) (tag : A) (r : Laying A) → tabbed w (f tag) (relay f r)
     ≡ relay f (tabbed w tag r)
 tabbed_retagged f w tag r =
-    ap (λ n. behind_stop w (behind_tail (replicate (to_stop w n) (space (f tag))) (relay f r)))
+    ap (λ n. after_stop w (after_tail (replicate (to_stop w n) (space (f tag))) (relay f r)))
     (line_taken_retagged f r)
-    ∙ ap (λ items. behind_stop w (behind_tail items (relay f r))) (spaces_retagged f (to_stop w (line_taken r)) tag)
-    ∙ ap (behind_stop w) (tail_retagged f r (replicate (to_stop w (line_taken r)) (space tag)))
-    ∙ behind_stop_retagged f w (behind_tail (replicate (to_stop w (line_taken r)) (space tag)) r)
+    ∙ ap (λ items. after_stop w (after_tail items (relay f r))) (spaces_retagged f (to_stop w (line_taken r)) tag)
+    ∙ ap (after_stop w) (tail_retagged f r (replicate (to_stop w (line_taken r)) (space tag)))
+    ∙ after_stop_retagged f w (after_tail (replicate (to_stop w (line_taken r)) (space tag)) r)
 
 stop_retagged : {A B : Type 0} (f : A → B) (w : ℕ) (main further : A) (r : Laying A)
     → lay_stop w (f main) (f further) (relay f r) ≡ relay f (lay_stop w main further r)
@@ -387,14 +385,14 @@ pub lines_wait_retagged : {A B : Type 0} (f : A → B) (w : ℕ) (wraps : Bool) 
 unfolding preserved_waiting
 lines_wait_retagged f w wraps line =
     ap (λ (r : Laying _). markers_of r.line
-    ++ names_of (word_behind w wraps [] (trimmed w wraps (map (resource f) line))))
+    ++ names_of (word_after w wraps [] (trimmed w wraps (map (resource f) line))))
     (laid_retagged f w wraps line)
-    ∙ ap (λ names. names ++ names_of (word_behind w wraps [] (trimmed w wraps (map (resource f) line))))
+    ∙ ap (λ names. names ++ names_of (word_after w wraps [] (trimmed w wraps (map (resource f) line))))
     (markers_retagged f (laid w wraps line).line)
     ∙ ap (λ names. markers_of (laid w wraps line).line ++ names)
-    (ap (λ s. names_of (word_behind w wraps [] s)) (trimmed_retagged f w wraps line)
-    ∙ ap names_of (word_behind_retagged f w wraps (trimmed w wraps line) [])
-    ∙ names_retagged f (word_behind w wraps [] (trimmed w wraps line)))
+    (ap (λ s. names_of (word_after w wraps [] s)) (trimmed_retagged f w wraps line)
+    ∙ ap names_of (word_after_retagged f w wraps (trimmed w wraps line) [])
+    ∙ names_retagged f (word_after w wraps [] (trimmed w wraps line)))
 
 wide_letter_retagged : {A B : Type 0} (f : A → B) (w : ℕ) (word : List (Source A))
     → has_wide_letter w (map (resource f) word) ≡ has_wide_letter w word

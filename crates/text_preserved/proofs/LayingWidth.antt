@@ -1,6 +1,6 @@
 -- No line passes the width, where no body has a character that is wider.
-use Rattle.std.proofs.Common.{◌≡◌, ℕ, ◌+◌, ◌-◌, ◌%◌, ◌≤◌, ◌⊎◌, Bool, true, false, List, [], ◌∷◌, ◌++◌, All, fold}
-use Rattle.std.proofs.Common.{replicate, if◌then◌else◌, refl, sym, ap, ◌∙◌, inl, inr, arith}
+use Rattle.std.proofs.Common.{◌≡◌, ◌+◌, ◌-◌, ◌%◌, ◌≤◌, ◌⊎◌, [], ◌∷◌, ◌++◌, if◌then◌else◌, ◌∙◌, All, Bool, List, ap}
+use Rattle.std.proofs.Common.{arith, false, fold, inl, inr, refl, replicate, sym, true, ℕ}
 use Rattle.std.specs.Prelude.{not, is_some, ◌==◌, ◌||◌, nat_le, nat_lt}
 use Rattle.std.proofs.lemmas.Bool.{cond_both}
 use Rattle.std.proofs.lemmas.Bool.Decides.{nat_tests}
@@ -8,17 +8,17 @@ use Rattle.std.proofs.lemmas.List.Elements.{All-append, All-cons, All-nil}
 use Rattle.text_lines.specs.Columns.{columns_of, width_of}
 use Rattle.text_lines.specs.Tagged.{Item, character, marker, line_columns}
 use Rattle.text_pieces.specs.Sources.{Source, letter, fragment, is_white_space}
-use Rattle.text_preserved.specs.Preserved.{Kind, solid, white, tab, cut, nothing, kind_of, trimmed, Part, blank, stop}
-use Rattle.text_preserved.specs.Preserved.{body, ended_word, is_begun, parts_at, word_at, goes_over_white, parts_behind}
-use Rattle.text_preserved.specs.Preserved.{parts, Laying, nothing_laid, space, chosen, has_text, line_text, line_taken}
-use Rattle.text_preserved.specs.Preserved.{fresh, with_room, written, without_spaces, item_columns, put, put_all}
-use Rattle.text_preserved.specs.Preserved.{put_space, lay_blank, to_stop, behind_stop, tabbed, lay_stop, taken, Tagging}
-use Rattle.text_preserved.specs.Preserved.{tag_one, tagged_body, remaining, broken_anywhere, broken_at_white, lay_items}
-use Rattle.text_preserved.specs.Preserved.{lay_body, lay_part, preserved_lines, has_wide_letter, has_wide_body}
-use Rattle.text_preserved.specs.Preserved.{is_too_wide}
-use Rattle.text_preserved.proofs.ColumnLemmas.{le_when, lt_unless, le_unless, IsSpace, AreSpaces, AreSpaces-append}
-use Rattle.text_preserved.proofs.ColumnLemmas.{AreSpaces-replicate, item_columns-space, line_columns-replicate}
-use Rattle.text_preserved.proofs.ColumnLemmas.{line_columns-drop}
+use Rattle.text_preserved.specs.Preserved.{Kind, Laying, Part, Tagging, after_stop, blank, body, broken_anywhere}
+use Rattle.text_preserved.specs.Preserved.{broken_at_white, chosen, cut, ended_word, fresh, goes_over_white, has_text}
+use Rattle.text_preserved.specs.Preserved.{has_wide_body, has_wide_letter, is_begun, is_too_wide, item_columns, kind_of}
+use Rattle.text_preserved.specs.Preserved.{lay_blank, lay_body, lay_items, lay_part, lay_stop, line_taken, line_text}
+use Rattle.text_preserved.specs.Preserved.{nothing, nothing_laid, parts, parts_after, parts_at, preserved_lines, put}
+use Rattle.text_preserved.specs.Preserved.{put_all, put_space, remaining, solid, space, stop, tab, tabbed, tag_one}
+use Rattle.text_preserved.specs.Preserved.{tagged_body, taken, to_stop, trimmed, white, with_room, without_spaces}
+use Rattle.text_preserved.specs.Preserved.{word_at, written}
+use Rattle.text_preserved.proofs.ColumnLemmas.{AreSpaces, AreSpaces-append, AreSpaces-replicate, IsSpace}
+use Rattle.text_preserved.proofs.ColumnLemmas.{item_columns-space, le_unless, le_when, line_columns-drop}
+use Rattle.text_preserved.proofs.ColumnLemmas.{line_columns-replicate, lt_unless}
 use Rattle.text_pieces.proofs.ItemColumns.{line_columns-append, line_columns-cons, no_columns}
 
 -- What is laid is within the width; white space waits only where there are columns.
@@ -143,8 +143,8 @@ blank_in w n main further r h le = record {
   waits = inr le;
 }
 
-behind_stop_in : {S : Type 0} (w : ℕ) (r : Laying S) → IsIn w r → IsIn w (behind_stop w r)
-behind_stop_in w r h = cond_both (nat_lt (line_taken r) w || (line_taken r % 8 == 0)) r (fresh r) (IsIn w) (λ e. h)
+after_stop_in : {S : Type 0} (w : ℕ) (r : Laying S) → IsIn w r → IsIn w (after_stop w r)
+after_stop_in w r h = cond_both (nat_lt (line_taken r) w || (line_taken r % 8 == 0)) r (fresh r) (IsIn w) (λ e. h)
     (λ e. let f : IsFresh w r (fresh r) = freshened w r h in f.kept)
 
 to_stop_fits : (w at : ℕ) → at ≤ w → at + to_stop w at ≤ w
@@ -152,7 +152,7 @@ to_stop_fits w at h = omega arith
 
 tabbed_in : {S : Type 0} (w : ℕ) (tag : S) (r : Laying S) → IsIn w r → IsIn w (tabbed w tag r)
 tabbed_in w tag r h =
-    behind_stop_in w (record r { tail = r.tail ++ replicate (to_stop w (line_taken r)) (space tag) })
+    after_stop_in w (record r { tail = r.tail ++ replicate (to_stop w (line_taken r)) (space tag) })
     (tail_in w r (replicate (to_stop w (line_taken r)) (space tag)) h
     (omega (arith, line_columns-replicate (to_stop w (line_taken r)) tag, to_stop_fits w (line_taken r) h.taken)))
 
@@ -301,11 +301,11 @@ parts_at_in w cut inside c main further word h = ended_word_in w word
 parts_at_in w nothing inside c main further word h = tt
 
 parts_in : {S : Type 0} (w : ℕ) (wraps : Bool) (word line : List (Source S)) →
-    ArePartsIn w (parts_behind w wraps word line)
+    ArePartsIn w (parts_after w wraps word line)
 parts_in w wraps word [] = ended_word_in w word
 parts_in w wraps word (letter c main further ∷ rest) =
     ArePartsIn-append w (parts_at (kind_of w wraps c) (goes_over_white wraps word) c main further word)
-    (parts_behind w wraps (word_at (kind_of w wraps c) (goes_over_white wraps word) c main further word) rest)
+    (parts_after w wraps (word_at (kind_of w wraps c) (goes_over_white wraps word) c main further word) rest)
     (parts_at_in w (kind_of w wraps c) (goes_over_white wraps word) c main further word (kind_has_columns w wraps c))
     (parts_in w wraps (word_at (kind_of w wraps c) (goes_over_white wraps word) c main further word) rest)
 parts_in w wraps word (fragment name ∷ rest) = parts_in w wraps (word ++ fragment name ∷ []) rest

@@ -1,21 +1,21 @@
 -- One pass over a source line lays its parts.
-use Rattle.std.proofs.Common.{◌≡◌, ℕ, ◌+◌, Bool, true, false, not, ◌&&◌, ◌||◌, nat_lt, nat_le, List, [], ◌∷◌, ◌++◌, sym}
-use Rattle.std.proofs.Common.{ap, ◌∙◌, refl, subst, append-nil, append_assoc}
+use Rattle.std.proofs.Common.{◌≡◌, ◌+◌, ◌&&◌, ◌||◌, [], ◌∷◌, ◌++◌, ◌∙◌, Bool, List, ap, append-nil, append_assoc, false}
+use Rattle.std.proofs.Common.{nat_le, nat_lt, not, refl, subst, sym, true, ℕ}
 use Rattle.std.specs.Prelude.{fold, if◌then◌else◌}
 use Rattle.std.proofs.lemmas.Bool.{false≢true}
 use Rattle.std.proofs.lemmas.List.Sums.{fold-append}
 use Rattle.text_lines.specs.Columns.{width_of}
 use Rattle.text_lines.specs.Tagged.{Item, marker}
 use Rattle.text_pieces.specs.Sources.{Source, letter, fragment}
-use Rattle.text_preserved.specs.Preserved.{Kind, solid, white, tab, cut, nothing, kind_of, Part, blank, stop, body}
-use Rattle.text_preserved.specs.Preserved.{is_begun, ended_word, waiting_word, parts_at, word_at, goes_over_white}
-use Rattle.text_preserved.specs.Preserved.{parts_behind, word_behind, parts, trimmed, Laying, nothing_laid, has_text}
-use Rattle.text_preserved.specs.Preserved.{line_text, line_taken, fresh, with_room, taken, Tagging, tag_one}
-use Rattle.text_preserved.specs.Preserved.{tagged_body, lay_items, lay_blank, lay_stop, lay_body, lay_part, laid}
-use Rattle.text_preserved.specs.Preserved.{preserved_lines, preserved_waiting, markers_of, names_of, has_wide_letter}
-use Rattle.text_preserved.specs.Preserved.{has_wide_body, is_too_wide}
-use Rattle.text_preserved.specs.Pass.{Pass, new_pass, entered, begins, lettered, ended_body, closed, blanked, stopped}
-use Rattle.text_preserved.specs.Pass.{read_at, read_letter, read_marker, read_all, finished, left_markers}
+use Rattle.text_preserved.specs.Preserved.{Kind, Laying, Part, Tagging, blank, body, cut, ended_word, fresh}
+use Rattle.text_preserved.specs.Preserved.{goes_over_white, has_text, has_wide_body, has_wide_letter, is_begun}
+use Rattle.text_preserved.specs.Preserved.{is_too_wide, kind_of, laid, lay_blank, lay_body, lay_items, lay_part}
+use Rattle.text_preserved.specs.Preserved.{lay_stop, line_taken, line_text, markers_of, names_of, nothing, nothing_laid}
+use Rattle.text_preserved.specs.Preserved.{parts, parts_after, parts_at, preserved_lines, preserved_waiting, solid}
+use Rattle.text_preserved.specs.Preserved.{stop, tab, tag_one, tagged_body, taken, trimmed, waiting_word, white}
+use Rattle.text_preserved.specs.Preserved.{with_room, word_after, word_at}
+use Rattle.text_preserved.specs.Pass.{Pass, begins, blanked, closed, ended_body, entered, finished, left_markers}
+use Rattle.text_preserved.specs.Pass.{lettered, new_pass, read_all, read_at, read_letter, read_marker, stopped}
 
 -- ---- tests
 
@@ -377,7 +377,7 @@ no_wide_letter width (fragment name ∷ word) none = no_wide_letter width word n
 
 all_read : {S : Type 0} (width : ℕ) (wraps : Bool) (r : Laying S) (word : List (Source S)) (wide : Bool) (p : Pass S)
     (line : List (Source S)) → StandsAt width wraps r word wide p
-    → EndsAt width wraps r (parts_behind width wraps word line) (word_behind width wraps word line) wide
+    → EndsAt width wraps r (parts_after width wraps word line) (word_after width wraps word line) wide
     (closed (read_all p line))
 all_read width wraps r word wide p [] h =
     let ends = body_closed width wraps r word wide p h in
@@ -393,24 +393,24 @@ all_read width wraps r word wide p (letter c main further ∷ line) h =
     let inside = goes_over_white wraps word in
     let here = parts_at k inside c main further word in
     let next = word_at k inside c main further word in
-    let behind = all_read width wraps (fold (lay_part width wraps) r here) next (wide || has_wide_body width here)
+    let trailing = all_read width wraps (fold (lay_part width wraps) r here) next (wide || has_wide_body width here)
     (read_letter c main further p) line
     (subst (StandsAt width wraps (fold (lay_part width wraps) r here) next (wide || has_wide_body width here))
     (read_here width wraps r word wide p c main further h)
     (at_read width wraps r word wide p k inside c main further h)) in
     record {
-      rows = behind.rows ∙ sym (fold-append (lay_part width wraps) r here (parts_behind width wraps next line));
-      waits = behind.waits;
-      is_wide = behind.is_wide
-          ∙ or_assoc wide (has_wide_body width here) (has_wide_body width (parts_behind width wraps next line))
-          ∙ ap (λ b. wide || b) (sym (wide-parts width here (parts_behind width wraps next line)));
+      rows = trailing.rows ∙ sym (fold-append (lay_part width wraps) r here (parts_after width wraps next line));
+      waits = trailing.waits;
+      is_wide = trailing.is_wide
+          ∙ or_assoc wide (has_wide_body width here) (has_wide_body width (parts_after width wraps next line))
+          ∙ ap (λ b. wide || b) (sym (wide-parts width here (parts_after width wraps next line)));
     }
 all_read width wraps r word wide p (fragment name ∷ line) h =
     all_read width wraps r (word ++ fragment name ∷ []) wide (read_marker name p) line
     (marker_read width wraps r word wide p name h)
 
 line_read : {S : Type 0} (width : ℕ) (wraps : Bool) (line : List (Source S))
-    → EndsAt width wraps nothing_laid (parts width wraps line) (word_behind width wraps [] (trimmed width wraps line))
+    → EndsAt width wraps nothing_laid (parts width wraps line) (word_after width wraps [] (trimmed width wraps line))
     false (closed (read_all (new_pass width wraps) (trimmed width wraps line)))
 line_read width wraps line =
     all_read width wraps nothing_laid [] false (new_pass width wraps) (trimmed width wraps line) (record {

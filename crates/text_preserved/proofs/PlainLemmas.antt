@@ -1,6 +1,6 @@
 -- A source line of printable ASCII that fits on a line is that line.
-use Rattle.std.proofs.Common.{◌≡◌, ℕ, ◌≤◌, inl, inr, Bool, true, false, List, [], ◌∷◌, ◌++◌, refl, sym, ap, ◌∙◌, arith}
-use Rattle.std.proofs.Common.{subst, chars, get_or, ◌<◌, length, take, string_bytes}
+use Rattle.std.proofs.Common.{◌≡◌, ◌≤◌, [], ◌∷◌, ◌++◌, ◌∙◌, ◌<◌, Bool, List, ap, arith, chars, false, get_or, inl, inr}
+use Rattle.std.proofs.Common.{length, refl, string_bytes, subst, sym, take, true, ℕ}
 use Rattle.std.specs.Prelude.{◌⊎◌, ◌||◌, nat_lt, All, flat_map, Option, None, Some, IsSome, option_to_list}
 use Rattle.std.specs.String.Boundary.{IsSplitPoint}
 use Rattle.std.proofs.lemmas.List.{append-nil}
@@ -10,14 +10,14 @@ use Rattle.std.proofs.lemmas.Str.{chars-IsAscii}
 use Rattle.std.proofs.lemmas.Str.Ascii.{IsAscii-from_all}
 use Rattle.text_lines.specs.Columns.{text_columns, width_of}
 use Rattle.text_lines.specs.Tagged.{character, marker, tagged}
-use Rattle.text_pieces.specs.Sources.{Source, letter, fragment, sourced, is_filled, names_of, sources_of}
-use Rattle.text_pieces.specs.Sources.{text_sources, wrap_seen}
+use Rattle.text_pieces.specs.Sources.{Source, fragment, is_filled, letter, names_of, sourced, sources_of, text_sources}
+use Rattle.text_pieces.specs.Sources.{wrap_seen}
 use Rattle.text_pieces.specs.declared.piece.Piece.{Piece}
 use Rattle.text_pieces.specs.declared.piece.Piece.TheVariants.{Text, Fragment}
 use Rattle.text_pieces.specs.declared.piece.TextPiece.{TextPiece}
 use Rattle.text_pieces.specs.Items.{markers_of}
-use Rattle.text_preserved.specs.Preserved.{kind_of, solid, trimmed, Part, blank, stop, body, parts, has_wide_letter}
-use Rattle.text_preserved.specs.Preserved.{has_wide_body, preserved_lines, preserved_waiting, is_too_wide}
+use Rattle.text_preserved.specs.Preserved.{Part, blank, body, has_wide_body, has_wide_letter, is_too_wide, kind_of}
+use Rattle.text_preserved.specs.Preserved.{parts, preserved_lines, preserved_waiting, solid, stop, trimmed}
 use Rattle.text_preserved.specs.Fronts.{BeginsSolid}
 use Rattle.text_preserved.specs.LawWords.{ArePlain, source_columns, as_it_stands, one_line}
 use Rattle.text_preserved.specs.PlainLines.{IsOnlyLine, IsPrintable, IsPlainFront, IsPlainCut, MakesLine, lead_items}

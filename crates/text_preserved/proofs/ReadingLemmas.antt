@@ -1,6 +1,6 @@
 -- What a pass keeps of what it reads.
-use Rattle.std.proofs.Common.{◌≡◌, ℕ, Bool, true, false, not, ◌&&◌, ◌||◌, List, [], ◌∷◌, ◌++◌, sym, ap, ◌∙◌, refl, take}
-use Rattle.std.proofs.Common.{drop}
+use Rattle.std.proofs.Common.{◌≡◌, ◌&&◌, ◌||◌, [], ◌∷◌, ◌++◌, ◌∙◌, Bool, List, ap, drop, false, not, refl, sym, take}
+use Rattle.std.proofs.Common.{true, ℕ}
 use Rattle.std.specs.Prelude.{Result, Ok, Err, IfOk, OnOk, if◌then◌else◌}
 use Rattle.std.proofs.lemmas.Bool.{false≢true}
 use Rattle.std.proofs.lemmas.List.Sums.{fold-append}
@@ -47,8 +47,8 @@ pub all_framed : {S : Type 0} (p : Pass S) (xs : List (Source S)) → IsFramed p
 all_framed p [] = record { width = refl; wraps = refl }
 all_framed p (x ∷ xs) =
     let here = source_framed p x in
-    let behind = all_framed (read_source p x) xs in
-    record { width = behind.width ∙ here.width; wraps = behind.wraps ∙ here.wraps }
+    let trailing = all_framed (read_source p x) xs in
+    record { width = trailing.width ∙ here.width; wraps = trailing.wraps ∙ here.wraps }
 
 -- ---- what is still to be read
 

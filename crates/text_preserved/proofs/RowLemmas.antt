@@ -1,6 +1,6 @@
 -- Lines that are being laid, item by item.
-use Rattle.std.proofs.Common.{◌≡◌, ℕ, ◌<◌, ◌≤◌, Bool, true, false, ◌-◌, List, [], ◌∷◌, ◌++◌, fold, length, take, get_or}
-use Rattle.std.proofs.Common.{sym, ap, ◌∙◌, refl, arith}
+use Rattle.std.proofs.Common.{◌≡◌, ◌<◌, ◌≤◌, ◌-◌, [], ◌∷◌, ◌++◌, ◌∙◌, Bool, List, ap, arith, false, fold, get_or}
+use Rattle.std.proofs.Common.{length, refl, sym, take, true, ℕ}
 use Rattle.std.specs.Prelude.{nat_le, if◌then◌else◌}
 use Rattle.std.proofs.lemmas.List.{append-nil, map-append}
 use Rattle.std.proofs.lemmas.List.Sums.{fold-append}
@@ -8,15 +8,15 @@ use Rattle.std.proofs.lemmas.Bool.Decides.{nat_tests}
 use Rattle.text_lines.specs.Tagged.{Item, character, tagged, element_items, elements_items, line_columns}
 use Rattle.text_lines.specs.declared.tagged_string.TaggedLineElement.{TaggedLineElement}
 use Rattle.text_lines.proofs.Joins.{elements_items-append}
-use Rattle.text_preserved.specs.Preserved.{Laying, has_text, line_text, line_taken, fresh, with_room, written}
-use Rattle.text_preserved.specs.Preserved.{without_spaces, item_columns, put, remaining, broken_anywhere}
+use Rattle.text_preserved.specs.Preserved.{Laying, broken_anywhere, fresh, has_text, item_columns, line_taken}
+use Rattle.text_preserved.specs.Preserved.{line_text, put, remaining, with_room, without_spaces, written}
 use Rattle.text_preserved.proofs.ColumnLemmas.{le_is_true}
 use Rattle.text_pieces.proofs.ElementLemmas.{next_taken, all_taken}
 
-pub put_behind : {S : Type 0} (width n : ℕ) (old mid : Laying S) (line tail : List (Item S)) (item : Item S)
+pub put_after : {S : Type 0} (width n : ℕ) (old mid : Laying S) (line tail : List (Item S)) (item : Item S)
     → n ≡ item_columns item → mid ≡ with_room width n old → tail ≡ [] → line ≡ line_text mid ++ item ∷ []
     → record mid { line = line; tail = tail } ≡ put width old item
-put_behind width n old mid line tail item columns room none pushed =
+put_after width n old mid line tail item columns room none pushed =
     ap (λ t. record mid { line = line; tail = t }) none
     ∙ ap (λ l. record mid { line = l; tail = [] }) pushed
     ∙ ap (λ m. written m (item ∷ [])) (room ∙ ap (λ k. with_room width k old) columns)
@@ -106,10 +106,10 @@ fresh_without r = by_text (has_text (line_text r))
     by_text true = refl
     by_text false = refl
 
-pub broken_behind : {S : Type 0} (width left : ℕ) (old mid new : Laying S) → left ≡ width - line_taken old
+pub broken_after : {S : Type 0} (width left : ℕ) (old mid new : Laying S) → left ≡ width - line_taken old
     → line_columns old.spaces < left → mid ≡ written (without_spaces old) old.spaces → new ≡ fresh mid
     → new ≡ broken_anywhere width old
-broken_behind width left old mid new left_is narrow write end =
+broken_after width left old mid new left_is narrow write end =
     end ∙ ap fresh write ∙ fresh_without (written old old.spaces)
     ∙ sym (if_false (nat_le (width - line_taken old) (line_columns old.spaces))
     (written (without_spaces (fresh old)) (remaining width (width - line_taken old) old.spaces))

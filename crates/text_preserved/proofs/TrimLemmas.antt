@@ -1,6 +1,7 @@
 -- A source line without the white space at its end, from its pieces and their characters.
-use Rattle.std.proofs.Common.{◌≡◌, ℕ, ◌≤◌, ◌+◌, Bool, true, false, not, ◌||◌, ◌==◌, List, [], ◌∷◌, ◌++◌, length, take}
-use Rattle.std.proofs.Common.{drop, sym, ap, ◌∙◌, refl, subst, append_assoc, arith, chars, IsUtf8, encode_utf8, add-one}
+use Rattle.std.proofs.Common.{◌≡◌, ◌≤◌, ◌+◌, ◌||◌, ◌==◌, [], ◌∷◌, ◌++◌, ◌∙◌, Bool, IsUtf8, List, add-one, ap}
+use Rattle.std.proofs.Common.{append_assoc, arith, chars, drop, encode_utf8, false, length, not, refl, subst, sym, take}
+use Rattle.std.proofs.Common.{true, ℕ}
 use Rattle.std.specs.Prelude.{if◌then◌else◌}
 use Rattle.std.specs.Char.{IsScalar}
 use Rattle.std.proofs.lemmas.Bool.Decides.{nat_tests}
@@ -93,11 +94,11 @@ solid_filled width wraps (c ∷ cs) =
     by_test false false rest e = e
 
 pub filled_last : (before : List ℕ) (c : ℕ) → IsScalar c → is_filled (before ++ encode_utf8 c) ≡ true
-filled_last before c scalar = filled_behind before (encode_utf8 c) (filled_char (encode_utf8 c) refl)
+filled_last before c scalar = filled_after before (encode_utf8 c) (filled_char (encode_utf8 c) refl)
   where
-    filled_behind : (xs ys : List ℕ) → is_filled ys ≡ true → is_filled (xs ++ ys) ≡ true
-    filled_behind [] ys h = h
-    filled_behind (x ∷ xs) ys h = refl
+    filled_after : (xs ys : List ℕ) → is_filled ys ≡ true → is_filled (xs ++ ys) ≡ true
+    filled_after [] ys h = h
+    filled_after (x ∷ xs) ys h = refl
 
     filled_char : (bytes : List ℕ) → encode_utf8 c ≡ bytes → is_filled bytes ≡ true
     filled_char [] e = cc (sym (chars-encode c scalar) ∙ ap chars e ∙ chars-nil)
@@ -223,44 +224,44 @@ bare_each seen width wraps (piece ∷ pieces) bare =
     ∙ ap (λ l. trimmed width wraps (piece_sources seen piece) ++ l) (bare_each seen width wraps pieces none.1)
 
 -- After these pieces nothing is shown.
-pub record IsBareBehind {T S : Type 0} (seen : T → S) (width : ℕ) (wraps : Bool)
+pub record IsBareAfter {T S : Type 0} (seen : T → S) (width : ℕ) (wraps : Bool)
     (all rest : List (Piece T)) : Type 0 where
-  pub behind : List (Piece T)
-  pub whole : all ≡ rest ++ behind
-  pub bare : has_solid width wraps (sources_of seen behind) ≡ false
+  pub trailing : List (Piece T)
+  pub whole : all ≡ rest ++ trailing
+  pub bare : has_solid width wraps (sources_of seen trailing) ≡ false
 
 pub bare_at_end : {T S : Type 0} (seen : T → S) (width : ℕ) (wraps : Bool) (all : List (Piece T))
-    → IsBareBehind seen width wraps all all
-bare_at_end seen width wraps all = record { behind = []; whole = sym (append-nil all); bare = refl }
+    → IsBareAfter seen width wraps all all
+bare_at_end seen width wraps all = record { trailing = []; whole = sym (append-nil all); bare = refl }
 
 pub bare_more : {T S : Type 0} (seen : T → S) (width : ℕ) (wraps : Bool) (all rest front : List (Piece T))
     (last : Piece T)
-    → IsBareBehind seen width wraps all rest → rest ≡ front ++ last ∷ []
-    → has_solid width wraps (piece_sources seen last) ≡ false → IsBareBehind seen width wraps all front
+    → IsBareAfter seen width wraps all rest → rest ≡ front ++ last ∷ []
+    → has_solid width wraps (piece_sources seen last) ≡ false → IsBareAfter seen width wraps all front
 bare_more seen width wraps all rest front last r split none = record {
-  behind = last ∷ r.behind;
-  whole = r.whole ∙ ap (λ l. l ++ r.behind) split ∙ append_assoc front (last ∷ []) r.behind;
-  bare = has_solid-append width wraps (piece_sources seen last) (sources_of seen r.behind)
-      ∙ ap (λ b. b || has_solid width wraps (sources_of seen r.behind)) none ∙ r.bare;
+  trailing = last ∷ r.trailing;
+  whole = r.whole ∙ ap (λ l. l ++ r.trailing) split ∙ append_assoc front (last ∷ []) r.trailing;
+  bare = has_solid-append width wraps (piece_sources seen last) (sources_of seen r.trailing)
+      ∙ ap (λ b. b || has_solid width wraps (sources_of seen r.trailing)) none ∙ r.bare;
 }
 
 pub whole_before : {T S : Type 0} (seen : T → S) (width : ℕ) (wraps : Bool) (all rest front : List (Piece T))
-    (last : Piece T) → IsBareBehind seen width wraps all rest → rest ≡ front ++ last ∷ []
+    (last : Piece T) → IsBareAfter seen width wraps all rest → rest ≡ front ++ last ∷ []
     → has_solid width wraps (piece_sources seen last) ≡ true → StayWhole seen width wraps all (length front)
 whole_before seen width wraps all rest front last r split some =
-    let back = last ∷ r.behind in
+    let back = last ∷ r.trailing in
     let whole : all ≡ front ++ back =
-    r.whole ∙ ap (λ l. l ++ r.behind) split ∙ append_assoc front (last ∷ []) r.behind in
+    r.whole ∙ ap (λ l. l ++ r.trailing) split ∙ append_assoc front (last ∷ []) r.trailing in
     let solid : has_solid width wraps (sources_of seen back) ≡ true =
-    has_solid-append width wraps (piece_sources seen last) (sources_of seen r.behind)
-    ∙ ap (λ b. b || has_solid width wraps (sources_of seen r.behind)) some in
+    has_solid-append width wraps (piece_sources seen last) (sources_of seen r.trailing)
+    ∙ ap (λ b. b || has_solid width wraps (sources_of seen r.trailing)) some in
     record {
       within = subst (λ l. length front ≤ length l) (sym whole) (omega (arith, length-append front back));
       trims = ap (trimmed width wraps) (ap (sources_of seen) whole ∙ sources-append seen front back)
           ∙ stays_before width wraps (sources_of seen front) (sources_of seen back) solid
           ∙ ap (λ l. sources_of seen front ++ l)
-          (goes_before width wraps (piece_sources seen last) (sources_of seen r.behind) r.bare
-          ∙ ap (λ l. trimmed width wraps (piece_sources seen last) ++ l) (bare_each seen width wraps r.behind r.bare))
+          (goes_before width wraps (piece_sources seen last) (sources_of seen r.trailing) r.bare
+          ∙ ap (λ l. trimmed width wraps (piece_sources seen last) ++ l) (bare_each seen width wraps r.trailing r.bare))
           ∙ ap (λ l. sources_of seen l ++ trimmed_each seen width wraps back) (sym (ap (take (length front)) whole
           ∙ take_at front back (length front) refl))
           ∙ ap (λ l. sources_of seen (take (length front) all) ++ trimmed_each seen width wraps l)
@@ -268,9 +269,9 @@ whole_before seen width wraps all rest front last r split some =
     }
 
 pub none_before : {T S : Type 0} (seen : T → S) (width : ℕ) (wraps : Bool) (all rest : List (Piece T))
-    → IsBareBehind seen width wraps all rest → rest ≡ [] → StayWhole seen width wraps all 0
+    → IsBareAfter seen width wraps all rest → rest ≡ [] → StayWhole seen width wraps all 0
 none_before seen width wraps all rest r nothing =
-    let whole : all ≡ r.behind = r.whole ∙ ap (λ l. l ++ r.behind) nothing in
+    let whole : all ≡ r.trailing = r.whole ∙ ap (λ l. l ++ r.trailing) nothing in
     record {
       within = omega arith;
       trims = bare_each seen width wraps all (ap (λ l. has_solid width wraps (sources_of seen l)) whole ∙ r.bare);

@@ -1,6 +1,6 @@
 -- Words and the spaces between them, that are laid on a line all at once.
-use Rattle.std.proofs.Common.{◌≡◌, ℕ, ◌+◌, ◌-◌, ◌≤◌, Bool, true, false, List, [], ◌∷◌, ◌++◌, if◌then◌else◌, sym, ap}
-use Rattle.std.proofs.Common.{◌∙◌, refl, subst, inl, inr, arith, chars, IsUtf8, encode_utf8}
+use Rattle.std.proofs.Common.{◌≡◌, ◌+◌, ◌-◌, ◌≤◌, [], ◌∷◌, ◌++◌, if◌then◌else◌, ◌∙◌, Bool, IsUtf8, List, ap, arith}
+use Rattle.std.proofs.Common.{chars, encode_utf8, false, inl, inr, refl, subst, sym, true, ℕ}
 use Rattle.std.specs.Prelude.{◌⊎◌, not, ◌||◌, ◌&&◌, ◌==◌, is_some}
 use Rattle.std.specs.Char.{IsScalar}
 use Rattle.std.proofs.lemmas.Bool.Decides.{nat_tests}
@@ -112,18 +112,18 @@ words_here width room left c in_word text rest after has utf8 split on is = reco
   });
 }
 
-pub words_next : (width room left c : ℕ) (in_word : Bool) (text rest behind next after : List ℕ)
+pub words_next : (width room left c : ℕ) (in_word : Bool) (text rest trailing next after : List ℕ)
     → HasFront (AreRead width room left in_word) text rest
-    → HasFront (λ cs. AreWordsOrNone width room cs (chars behind)) text behind → IsUtf8 rest
-    → rest ≡ encode_utf8 c ++ after → next ≡ (if in_word && (c == 0x20) then rest else behind)
+    → HasFront (λ cs. AreWordsOrNone width room cs (chars trailing)) text trailing → IsUtf8 rest
+    → rest ≡ encode_utf8 c ++ after → next ≡ (if in_word && (c == 0x20) then rest else trailing)
     → HasFront (λ cs. AreWordsOrNone width room cs (chars next)) text next
-words_next width room left c in_word text rest behind next after has words utf8 split next_is =
+words_next width room left c in_word text rest trailing next after has words utf8 split next_is =
     by_end in_word (c == 0x20) refl refl next_is
   where
     Goal : List ℕ → Type 0
     Goal l = HasFront (λ cs. AreWordsOrNone width room cs (chars l)) text l
 
-    by_end : (on space : Bool) → in_word ≡ on → (c == 0x20) ≡ space → next ≡ (if on && space then rest else behind)
+    by_end : (on space : Bool) → in_word ≡ on → (c == 0x20) ≡ space → next ≡ (if on && space then rest else trailing)
         → Goal next
     by_end true true e f h =
         subst Goal (sym h) (words_here width room left c in_word text rest after has utf8 split e
@@ -133,21 +133,21 @@ words_next width room left c in_word text rest behind next after has words utf8 
 
 -- ---- the text cut there
 
-pub words_fit : (width taken room : ℕ) (text rest here behind : List ℕ)
+pub words_fit : (width taken room : ℕ) (text rest here trailing : List ℕ)
     → HasFront (λ cs. AreWordsOrNone width room cs (chars rest)) text rest → room + taken ≡ width
-    → ((front : List ℕ) → text ≡ front ++ rest → here ≡ front) → behind ≡ rest
-    → WordsFit width taken (chars here) (chars behind)
-words_fit width taken room text rest here behind has room_is only behind_is =
+    → ((front : List ℕ) → text ≡ front ++ rest → here ≡ front) → trailing ≡ rest
+    → WordsFit width taken (chars here) (chars trailing)
+words_fit width taken room text rest here trailing has room_is only after_is =
     by_words (subst (λ l. AreWordsOrNone width room (chars l) (chars rest))
     (sym (only has.parts.front has.parts.whole)) has.holds)
   where
-    by_words : AreWordsOrNone width room (chars here) (chars rest) → WordsFit width taken (chars here) (chars behind)
+    by_words : AreWordsOrNone width room (chars here) (chars rest) → WordsFit width taken (chars here) (chars trailing)
     by_words (inl none) = inl none
     by_words (inr words) = inr (
       room,
       omega (arith, room_is),
       subst (λ l. AreWords width room (chars here) (chars l))
-          (sym behind_is) words,
+          (sym after_is) words,
     )
 
 -- a text without characters is empty

@@ -1,18 +1,18 @@
 -- Words and the spaces between them that go on the line at hand are read as they are laid there all at once.
-use Rattle.std.proofs.Common.{◌≡◌, ℕ, ◌+◌, ◌≤◌, Bool, true, false, List, [], ◌∷◌, ◌++◌, if◌then◌else◌, sym, ap, ◌∙◌}
-use Rattle.std.proofs.Common.{refl, subst, append-nil, append_assoc, inl, inr, arith}
+use Rattle.std.proofs.Common.{◌≡◌, ◌+◌, ◌≤◌, [], ◌∷◌, ◌++◌, if◌then◌else◌, ◌∙◌, Bool, List, ap, append-nil}
+use Rattle.std.proofs.Common.{append_assoc, arith, false, inl, inr, refl, subst, sym, true, ℕ}
 use Rattle.std.specs.Prelude.{◌⊎◌, not, ◌||◌, ◌&&◌, ◌==◌, nat_lt, is_some}
 use Rattle.std.proofs.lemmas.List.{map-append}
 use Rattle.std.proofs.lemmas.List.Sums.{fold-append, sum_by-cons}
 use Rattle.text_lines.specs.Columns.{columns_of, width_of, text_columns}
 use Rattle.text_lines.specs.Tagged.{Item, character, tagged, line_columns}
 use Rattle.text_pieces.specs.Sources.{letter, sourced}
-use Rattle.text_preserved.specs.Preserved.{Kind, solid, white, cut, kind_of, is_solid, Laying, space, chosen, line_text}
-use Rattle.text_preserved.specs.Preserved.{line_taken, taken, fresh, written, without_spaces, put_all, broken_at_white}
-use Rattle.text_preserved.specs.Preserved.{lay_blank}
-use Rattle.text_preserved.specs.Pass.{Pass, lettered, begins, closed, ended_body, blanked, read_at, read_letter}
-use Rattle.text_preserved.specs.Pass.{read_source, read_all}
-use Rattle.text_preserved.specs.Fronts.{AreWordsAndSpaces, ends_solid, StartsWithSpace, AreWords, WordsFit, has_wider}
+use Rattle.text_preserved.specs.Preserved.{Kind, Laying, broken_at_white, chosen, cut, fresh, is_solid, kind_of}
+use Rattle.text_preserved.specs.Preserved.{lay_blank, line_taken, line_text, put_all, solid, space, taken, white}
+use Rattle.text_preserved.specs.Preserved.{without_spaces, written}
+use Rattle.text_preserved.specs.Pass.{Pass, begins, blanked, closed, ended_body, lettered, read_all, read_at}
+use Rattle.text_preserved.specs.Pass.{read_letter, read_source}
+use Rattle.text_preserved.specs.Fronts.{AreWords, AreWordsAndSpaces, StartsWithSpace, WordsFit, ends_solid, has_wider}
 use Rattle.text_preserved.specs.Fronts.{words_laid}
 use Rattle.text_preserved.proofs.ColumnLemmas.{le_is_true, lt_is_false, width_of-space}
 use Rattle.text_pieces.proofs.ItemColumns.{line_columns-append}
@@ -156,9 +156,9 @@ space_not_wide width wide cs some =
     (lt_is_false width (width_of 0x20) (omega (arith, some, width_of-space))))
 
 -- the space stands after the word, and what follows after it
-behind_space : {S : Type 0} (xs spaces word rest : List (Item S)) (x : Item S)
+after_space : {S : Type 0} (xs spaces word rest : List (Item S)) (x : Item S)
     → ((xs ++ (spaces ++ word)) ++ []) ++ (x ∷ rest) ≡ xs ++ (spaces ++ (word ++ x ∷ rest))
-behind_space xs spaces word rest x =
+after_space xs spaces word rest x =
     ap (λ l. l ++ (x ∷ rest)) (append-nil (xs ++ (spaces ++ word)))
     ∙ append_assoc xs (spaces ++ word) (x ∷ rest) ∙ ap (λ l. xs ++ l) (append_assoc spaces word (x ∷ rest))
 
@@ -183,7 +183,7 @@ on_space width main further cs rest = record {
       ∙ rest.before (with_space (with_items r word) tag) r.goes_on wide
       (omega (arith, fits, both, alone, line, text, held)) (sym (ap (λ k. ends_solid width (is_solid k) cs) is) ∙ ends)
       ∙ ap (λ l. outside width (record r { line = l; tail = []; spaces = [] }) r.goes_on (wide || has_wider width cs))
-      (behind_space (line_text r) r.spaces word (tagged cs tag) (space tag))
+      (after_space (line_text r) r.spaces word (tagged cs tag) (space tag))
       ∙ ap (λ b. settled width r (word ++ tagged (0x20 ∷ cs) tag) b) (space_not_wide width wide cs some);
   before = λ r on wide fits ends.
       let tag = chosen r.goes_on main further in
@@ -248,9 +248,9 @@ space_read main further m true e wraps =
     ∙ ended_before (kind_of m.width true 0x20) main further m (space_is m.width) e
     ∙ ap (λ w. read_at (kind_of m.width w 0x20) (not w && m.begun) 0x20 main further m) (sym wraps)
 
-behind_read : {S : Type 0} (main further : S) (m : Pass S) (cs : List ℕ) → StartsWithSpace cs → m.wraps ≡ true
+after_read : {S : Type 0} (main further : S) (m : Pass S) (cs : List ℕ) → StartsWithSpace cs → m.wraps ≡ true
     → read_all (closed m) (sourced cs main further) ≡ read_all m (sourced cs main further)
-behind_read main further m cs starts wraps =
+after_read main further m cs starts wraps =
     ap (λ l. read_all (closed m) (sourced l main further)) starts.whole
     ∙ ap (λ x. read_all x (sourced starts.after main further)) (space_read main further m m.begun refl wraps)
     ∙ ap (λ l. read_all m (sourced l main further)) (sym starts.whole)
@@ -263,28 +263,28 @@ is_outside p wraps begun word =
     ∙ ap (λ items. record p { wraps = true; begun = false; word = items }) word
 
 -- what is left reads on to the same
-pub words_left : {S : Type 0} (here behind all : List ℕ) (main further : S) (p q : Pass S) → all ≡ here ++ behind
+pub words_left : {S : Type 0} (here trailing all : List ℕ) (main further : S) (p q : Pass S) → all ≡ here ++ trailing
     → p.wraps ≡ true → p.begun ≡ false → p.word ≡ [] → (room : ℕ) → room + taken p.rows ≤ p.width
-    → AreWords p.width room here behind → q ≡ words_laid here main further p
-    → read_all q (sourced behind main further) ≡ read_all p (sourced all main further)
-words_left here behind all main further p q whole wraps begun word room fits words laid =
+    → AreWords p.width room here trailing → q ≡ words_laid here main further p
+    → read_all q (sourced trailing main further) ≡ read_all p (sourced all main further)
+words_left here trailing all main further p q whole wraps begun word room fits words laid =
     let o = outside p.width p.rows p.goes_on p.wide in
     let is : p ≡ o = is_outside p wraps begun word in
     let both = both_read p.width main further here words.all in
     let m = read_all p (sourced here main further) in
-    ap (λ x. read_all x (sourced behind main further)) (laid ∙ ap (words_laid here main further) is
+    ap (λ x. read_all x (sourced trailing main further)) (laid ∙ ap (words_laid here main further) is
     ∙ sym (both.before p.rows p.goes_on p.wide (omega (arith, words.columns, fits)) words.word)
     ∙ ap (λ x. closed (read_all x (sourced here main further))) (sym is))
-    ∙ behind_read main further m behind words.ends ((all_framed p (sourced here main further)).wraps ∙ wraps)
-    ∙ sym (fold-append read_source p (sourced here main further) (sourced behind main further))
-    ∙ ap (read_all p) (sym (map-append (λ c. letter c main further) here behind))
+    ∙ after_read main further m trailing words.ends ((all_framed p (sourced here main further)).wraps ∙ wraps)
+    ∙ sym (fold-append read_source p (sourced here main further) (sourced trailing main further))
+    ∙ ap (read_all p) (sym (map-append (λ c. letter c main further) here trailing))
     ∙ ap (λ cs. read_all p (sourced cs main further)) (sym whole)
 
-pub words_read : {S : Type 0} (here behind all : List ℕ) (main further : S) (p q : Pass S) (before : ℕ)
-    → all ≡ here ++ behind → p.wraps ≡ true → p.begun ≡ false → p.word ≡ [] → before ≡ taken p.rows
-    → WordsFit p.width before here behind → (here ≡ [] → ⊥) → q ≡ words_laid here main further p
-    → read_all q (sourced behind main further) ≡ read_all p (sourced all main further)
-words_read here behind all main further p q before whole wraps begun word is (inl none) some laid = absurd (some none)
-words_read here behind all main further p q before whole wraps begun word is (inr words) some laid =
-    words_left here behind all main further p q whole wraps begun word words.0 (omega (arith, is, words.1)) words.2
+pub words_read : {S : Type 0} (here trailing all : List ℕ) (main further : S) (p q : Pass S) (before : ℕ)
+    → all ≡ here ++ trailing → p.wraps ≡ true → p.begun ≡ false → p.word ≡ [] → before ≡ taken p.rows
+    → WordsFit p.width before here trailing → (here ≡ [] → ⊥) → q ≡ words_laid here main further p
+    → read_all q (sourced trailing main further) ≡ read_all p (sourced all main further)
+words_read here trailing all main further p q before whole wraps begun word is (inl none) some laid = absurd (some none)
+words_read here trailing all main further p q before whole wraps begun word is (inr words) some laid =
+    words_left here trailing all main further p q whole wraps begun word words.0 (omega (arith, is, words.1)) words.2
     laid

@@ -1,16 +1,16 @@
 -- Fronts of texts, whose characters are taken at once.
-use Rattle.std.specs.Prelude.{◌≡◌, ◌⊎◌, ℕ, ◌+◌, ◌≤◌, Bool, true, false, not, ◌||◌, nat_lt, List, [], ◌∷◌, ◌++◌, fold}
-use Rattle.std.specs.Prelude.{chars}
+use Rattle.std.specs.Prelude.{◌≡◌, ◌⊎◌, ◌+◌, ◌≤◌, ◌||◌, [], ◌∷◌, ◌++◌, Bool, List, chars, false, fold, nat_lt, not}
+use Rattle.std.specs.Prelude.{true, ℕ}
 use Rattle.text_lines.specs.Columns.{width_of, text_columns}
 use Rattle.text_lines.specs.Tagged.{tagged}
-use Rattle.text_pieces.specs.Cuts.{IsBehind}
-use Rattle.text_preserved.specs.Preserved.{Kind, solid, white, tab, cut, nothing, kind_of, is_solid, chosen, written}
-use Rattle.text_preserved.specs.Preserved.{without_spaces}
+use Rattle.text_pieces.specs.Cuts.{IsAfter}
+use Rattle.text_preserved.specs.Preserved.{Kind, chosen, cut, is_solid, kind_of, nothing, solid, tab, white}
+use Rattle.text_preserved.specs.Preserved.{without_spaces, written}
 use Rattle.text_preserved.specs.Pass.{Pass, lettered}
 
 -- of the front's characters something holds
 pub record HasFront (Holds : List ℕ → Type 0) (text rest : List ℕ) : Type 0 where
-  pub parts : IsBehind text rest
+  pub parts : IsAfter text rest
   pub holds : Holds (chars parts.front)
 
 -- the first of the characters is solid

@@ -1,12 +1,12 @@
 -- A source line whose white space stays, laid in one pass: parts are laid as they end, and the characters of a body
 -- have their tags as they are read.
-use Rattle.std.specs.Prelude.{ℕ, ◌+◌, Bool, true, false, not, ◌&&◌, ◌||◌, nat_lt, List, [], ◌∷◌, ◌++◌, fold}
-use Rattle.std.specs.Prelude.{if◌then◌else◌}
+use Rattle.std.specs.Prelude.{◌+◌, ◌&&◌, ◌||◌, [], ◌∷◌, ◌++◌, if◌then◌else◌, Bool, List, false, fold, nat_lt, not, true}
+use Rattle.std.specs.Prelude.{ℕ}
 use Rattle.text_lines.specs.Columns.{width_of}
 use Rattle.text_lines.specs.Tagged.{Item, character, marker, line_columns}
 use Rattle.text_pieces.specs.Sources.{Source, letter, fragment}
-use Rattle.text_preserved.specs.Preserved.{Kind, solid, white, tab, cut, nothing, kind_of, Laying, nothing_laid}
-use Rattle.text_preserved.specs.Preserved.{with_room, taken, chosen, lay_items, lay_blank, lay_stop, fresh, markers_of}
+use Rattle.text_preserved.specs.Preserved.{Kind, Laying, chosen, cut, fresh, kind_of, lay_blank, lay_items, lay_stop}
+use Rattle.text_preserved.specs.Preserved.{markers_of, nothing, nothing_laid, solid, tab, taken, white, with_room}
 
 -- The columns of a line, and whether lines break at white space; what was laid; the body so far, or the markers that
 -- wait for one; whether a body has begun, and whether its source line was wrapped before its end; whether some body has

@@ -1,6 +1,6 @@
 -- A source line that is one line, as it stands.
-use Rattle.std.specs.Prelude.{◌≡◌, ◌⊎◌, ℕ, ◌≤◌, Bool, true, false, List, [], ◌∷◌, All, chars, take, string_bytes}
-use Rattle.std.specs.Prelude.{Option, None, Some}
+use Rattle.std.specs.Prelude.{◌≡◌, ◌⊎◌, ◌≤◌, [], ◌∷◌, All, Bool, List, None, Option, Some, chars, false, string_bytes}
+use Rattle.std.specs.Prelude.{take, true, ℕ}
 use Rattle.std.specs.String.Boundary.{IsSplitPoint}
 use Rattle.text_lines.specs.Columns.{text_columns}
 use Rattle.text_lines.specs.Tagged.{Item, marker}

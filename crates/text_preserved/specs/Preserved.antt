@@ -1,7 +1,7 @@
 -- A source line whose white space stays, on lines of at most a width (CSS 2.2, 16.6: `pre` and `pre-wrap`, but that too
 -- wide a line is wrapped). It is cut into parts, and these are laid one after another.
-use Rattle.std.specs.Prelude.{ℕ, ◌+◌, ◌-◌, ◌%◌, min, Bool, true, false, not, ◌&&◌, ◌||◌, ◌==◌, nat_le, nat_lt, List, []}
-use Rattle.std.specs.Prelude.{◌∷◌, ◌++◌, is_some, fold, replicate, drop, if◌then◌else◌}
+use Rattle.std.specs.Prelude.{◌+◌, ◌-◌, ◌%◌, ◌&&◌, ◌||◌, ◌==◌, [], ◌∷◌, ◌++◌, if◌then◌else◌, Bool, List, drop, false}
+use Rattle.std.specs.Prelude.{fold, is_some, min, nat_le, nat_lt, not, replicate, true, ℕ}
 use Rattle.text_lines.specs.Columns.{columns_of, width_of}
 use Rattle.text_lines.specs.Tagged.{Item, character, marker, line_columns}
 pub use Rattle.text_pieces.specs.Items.{has_text, item_columns, markers_of}
@@ -91,21 +91,21 @@ word_at nothing inside c main further word = word
 abbrev pub goes_over_white : {S : Type 0} → Bool → List (Source S) → Bool
 goes_over_white wraps word = not wraps && is_begun word
 
-abbrev pub parts_behind : {S : Type 0} → ℕ → Bool → List (Source S) → List (Source S) → List (Part S)
-parts_behind width wraps word [] = ended_word word
-parts_behind width wraps word (letter c main further ∷ rest) =
+abbrev pub parts_after : {S : Type 0} → ℕ → Bool → List (Source S) → List (Source S) → List (Part S)
+parts_after width wraps word [] = ended_word word
+parts_after width wraps word (letter c main further ∷ rest) =
     parts_at (kind_of width wraps c) (goes_over_white wraps word) c main further word
-    ++ parts_behind width wraps (word_at (kind_of width wraps c) (goes_over_white wraps word) c main further word) rest
-parts_behind width wraps word (fragment name ∷ rest) = parts_behind width wraps (word ++ fragment name ∷ []) rest
+    ++ parts_after width wraps (word_at (kind_of width wraps c) (goes_over_white wraps word) c main further word) rest
+parts_after width wraps word (fragment name ∷ rest) = parts_after width wraps (word ++ fragment name ∷ []) rest
 
-abbrev pub word_behind : {S : Type 0} → ℕ → Bool → List (Source S) → List (Source S) → List (Source S)
-word_behind width wraps word [] = waiting_word word
-word_behind width wraps word (letter c main further ∷ rest) =
-    word_behind width wraps (word_at (kind_of width wraps c) (goes_over_white wraps word) c main further word) rest
-word_behind width wraps word (fragment name ∷ rest) = word_behind width wraps (word ++ fragment name ∷ []) rest
+abbrev pub word_after : {S : Type 0} → ℕ → Bool → List (Source S) → List (Source S) → List (Source S)
+word_after width wraps word [] = waiting_word word
+word_after width wraps word (letter c main further ∷ rest) =
+    word_after width wraps (word_at (kind_of width wraps c) (goes_over_white wraps word) c main further word) rest
+word_after width wraps word (fragment name ∷ rest) = word_after width wraps (word ++ fragment name ∷ []) rest
 
 abbrev pub parts : {S : Type 0} → ℕ → Bool → List (Source S) → List (Part S)
-parts width wraps line = parts_behind width wraps [] (trimmed width wraps line)
+parts width wraps line = parts_after width wraps [] (trimmed width wraps line)
 
 -- What was laid of a source line: the lines that are done; the line at hand, and the white space that ends it so far;
 -- white space that is not written yet; whether the source line was wrapped before what comes.
@@ -166,11 +166,11 @@ to_stop width at = min (8 - at % 8) (width - at)
 
 -- A tab: white space before it is written, then spaces up to the stop, at least one. Where they end at the width
 -- before the stop, a fresh line begins.
-abbrev pub behind_stop : {S : Type 0} → ℕ → Laying S → Laying S
-behind_stop width r = if nat_lt (line_taken r) width || (line_taken r % 8 == 0) then r else fresh r
+abbrev pub after_stop : {S : Type 0} → ℕ → Laying S → Laying S
+after_stop width r = if nat_lt (line_taken r) width || (line_taken r % 8 == 0) then r else fresh r
 
 abbrev pub tabbed : {S : Type 0} → ℕ → S → Laying S → Laying S
-tabbed width tag r = behind_stop width
+tabbed width tag r = after_stop width
     (record r { tail = r.tail ++ replicate (to_stop width (line_taken r)) (space tag) })
 
 abbrev pub lay_stop : {S : Type 0} → ℕ → S → S → Laying S → Laying S
@@ -240,7 +240,7 @@ preserved_lines width wraps line = (laid width wraps line).done
 -- than the width and the last of the line
 unfoldable pub preserved_waiting : {S : Type 0} → ℕ → Bool → List (Source S) → List (List ℕ)
 preserved_waiting width wraps line = markers_of (laid width wraps line).line
-    ++ names_of (word_behind width wraps [] (trimmed width wraps line))
+    ++ names_of (word_after width wraps [] (trimmed width wraps line))
 
 -- some character of the word is wider than the width
 abbrev pub has_wide_letter : {S : Type 0} → ℕ → List (Source S) → Bool

@@ -1,6 +1,6 @@
 -- A source line without the white space at its end, piece by piece.
-use Rattle.std.specs.Prelude.{◌≡◌, ℕ, ◌≤◌, Bool, false, ◌||◌, List, [], ◌∷◌, ◌++◌, flat_map, length, take, drop}
-use Rattle.std.specs.Prelude.{if◌then◌else◌}
+use Rattle.std.specs.Prelude.{◌≡◌, ◌≤◌, ◌||◌, [], ◌∷◌, ◌++◌, if◌then◌else◌, Bool, List, drop, false, flat_map, length}
+use Rattle.std.specs.Prelude.{take, ℕ}
 use Rattle.std.specs.String.Boundary.{IsSplitPoint}
 use Rattle.text_pieces.specs.Sources.{Source, piece_sources, sources_of}
 use Rattle.text_preserved.specs.Preserved.{kind_of, is_solid, trimmed}

@@ -1,11 +1,10 @@
 //! White space and bodies on lines that are being laid.
-ghost use Rattle.std.specs.Prelude.{◌≡◌, ◌+◌, ◌-◌, ◌%◌, min, [], ◌++◌, ◌||◌, ◌==◌, chars, string_bytes, drop};
-ghost use Rattle.std.specs.Prelude.{length, fold, OnOk, IfOk, ◌∷◌, ◌≤◌, if◌then◌else◌};
-ghost use Rattle.text_lines.specs.Tagged.{line_items, element_items, line_columns, character, marker, tagged};
-ghost use Rattle.text_lines.specs.Tagged.{IsJoined};
-ghost use Rattle.text_preserved.specs.Preserved.{line_taken, written, without_spaces, put_space, to_stop};
-ghost use Rattle.text_preserved.specs.Preserved.{behind_stop, tabbed, lay_stop, remaining, broken_anywhere};
-ghost use Rattle.text_preserved.specs.Preserved.{broken_at_white, lay_items, taken};
+ghost use Rattle.std.specs.Prelude.{◌≡◌, ◌+◌, ◌-◌, ◌%◌, [], ◌++◌, ◌||◌, ◌==◌, ◌∷◌, ◌≤◌, if◌then◌else◌, IfOk, OnOk};
+ghost use Rattle.std.specs.Prelude.{chars, drop, fold, length, min, string_bytes};
+ghost use Rattle.text_lines.specs.Tagged.{IsJoined, character, element_items, line_columns, line_items, marker, tagged};
+ghost use Rattle.text_preserved.specs.Preserved.{after_stop, broken_anywhere, broken_at_white, lay_items, lay_stop};
+ghost use Rattle.text_preserved.specs.Preserved.{line_taken, put_space, remaining, tabbed, taken, to_stop};
+ghost use Rattle.text_preserved.specs.Preserved.{without_spaces, written};
 
 use crate::laying::{Rows, chosen};
 use std::alloc::AllocError;
@@ -122,7 +121,7 @@ impl<T: EqualCopy + Drop> Rows<T> {
 
     /// Ends the line at hand after a tab that was cut off at the width.
     fn end_full_line(&mut self, width: usize) -> Result<(), AllocError>
-        ensures laid { OnOk result (laying_of T.seen self.new ≡ behind_stop width (laying_of T.seen self.old)) }
+        ensures laid { OnOk result (laying_of T.seen self.new ≡ after_stop width (laying_of T.seen self.old)) }
         ensures joined { HasJoinedRows T.seen self.old → HasJoinedRows T.seen self.new }
     {
         let at = self.line_taken()?;
@@ -146,7 +145,7 @@ impl<T: EqualCopy + Drop> Rows<T> {
         ensures joined { HasJoinedRows T.seen self.old → HasJoinedRows T.seen self.new }
     {
         if self.taken()?.checked_add(items.width()).ok_or(AllocError)? <= width {
-            return self.write_behind_spaces(items);
+            return self.write_after_spaces(items);
         }
         self.break_line(width, wraps)?;
         self.put_all(width, items)
@@ -161,7 +160,7 @@ impl<T: EqualCopy + Drop> Rows<T> {
             .ok_or(AllocError)
     }
 
-    fn write_behind_spaces(&mut self, items: &TaggedLine<T>) -> Result<(), AllocError>
+    fn write_after_spaces(&mut self, items: &TaggedLine<T>) -> Result<(), AllocError>
         ensures laid { OnOk result (laying_of T.seen self.new
             ≡ written (without_spaces (laying_of T.seen self.old))
             ((laying_of T.seen self.old).spaces ++ line_items T.seen items.now)) }
@@ -241,8 +240,8 @@ impl<T: EqualCopy + Drop> Rows<T> {
         ensures joined { HasJoinedRows T.seen self.old → HasJoinedRows T.seen self.new }
     {
         let columns = self.spaces.width();
-        let behind = columns - left;
-        let kept = behind.checked_rem(width).unwrap_or(behind);
+        let trailing = columns - left;
+        let kept = trailing.checked_rem(width).unwrap_or(trailing);
         self.line.push_line(&self.tail)?;
         self.tail.clear();
         push_dropped(&mut self.line, &self.spaces, columns - kept)?;

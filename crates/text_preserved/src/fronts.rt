@@ -1,10 +1,10 @@
 //! Fronts of texts, whose characters are taken at once.
-ghost use Rattle.std.specs.Prelude.{◌≡◌, ◌≤◌, ◌==◌, ◌&&◌, ◌||◌, true, ◌++◌, length, chars, IsTrue, IsUtf8};
-ghost use Rattle.std.specs.Prelude.{if◌then◌else◌};
+ghost use Rattle.std.specs.Prelude.{◌≡◌, ◌≤◌, ◌==◌, ◌&&◌, ◌||◌, ◌++◌, if◌then◌else◌, IsTrue, IsUtf8, chars, length};
+ghost use Rattle.std.specs.Prelude.{true};
 ghost use Rattle.text_lines.specs.Columns.{text_columns};
 ghost use Rattle.text_preserved.specs.Preserved.{kind_of, is_solid};
-ghost use Rattle.text_preserved.specs.Fronts.{HasFront, goes_on_with, BeginsSolid, JoinsBody, Fits, AreWordsOrNone};
-ghost use Rattle.text_preserved.specs.Fronts.{WordsFit, has_wider};
+ghost use Rattle.text_preserved.specs.Fronts.{AreWordsOrNone, BeginsSolid, Fits, HasFront, JoinsBody, WordsFit};
+ghost use Rattle.text_preserved.specs.Fronts.{goes_on_with, has_wider};
 
 use crate::kinds::{CharacterKind, is_solid, kind_of};
 use text_pieces::{first_char, split_before, width_of};
@@ -15,10 +15,10 @@ pub(crate) fn body_front(text: &str, width: usize, wraps: bool) -> (&str, &str)
     ensures joins { JoinsBody width wraps (chars result.0.now) }
     ensures no_longer { length result.1.now ≤ length text.now }
 {
-    split_before(text, behind_body(text, width, wraps))
+    split_before(text, after_body(text, width, wraps))
 }
 
-fn behind_body(text: &str, width: usize, wraps: bool) -> &str
+fn after_body(text: &str, width: usize, wraps: bool) -> &str
     ensures { HasFront (JoinsBody width wraps) text.now result.now }
 {
     let mut rest = text;
@@ -59,12 +59,12 @@ pub(crate) fn fitting_front(text: &str, width: usize, taken: usize) -> (&str, &s
     ensures no_longer { length result.1.now ≤ length text.now }
 {
     match width.checked_sub(taken) {
-        Some(room) => split_before(text, behind_fitting(text, room)),
+        Some(room) => split_before(text, after_fitting(text, room)),
         None => ("", text),
     }
 }
 
-fn behind_fitting(text: &str, room: usize) -> &str
+fn after_fitting(text: &str, room: usize) -> &str
     ensures { HasFront (λ cs. text_columns cs ≤ room) text.now result.now }
 {
     let mut left = room;
@@ -89,36 +89,36 @@ pub(crate) fn words_front(text: &str, width: usize, taken: usize) -> (&str, &str
     ensures no_longer { length result.1.now ≤ length text.now }
 {
     match width.checked_sub(taken) {
-        Some(room) => split_before(text, behind_words(text, width, room)),
+        Some(room) => split_before(text, after_words(text, width, room)),
         None => ("", text),
     }
 }
 
-fn behind_words(text: &str, width: usize, room: usize) -> &str
+fn after_words(text: &str, width: usize, room: usize) -> &str
     ensures { HasFront (λ cs. AreWordsOrNone width room cs (chars result.now)) text.now result.now }
 {
     let mut left = room;
     let mut rest = text;
-    let mut behind = text;
+    let mut trailing = text;
     let mut in_word = false;
     while let Some((c, after)) = first_char(rest) {
-        behind = behind_word(in_word, c, rest, behind);
+        trailing = rest_after_word(in_word, c, rest, trailing);
         let columns = width_of(c);
         if columns > left || !is_word_or_space(c, width) {
-            return behind;
+            return trailing;
         }
         left -= columns;
         in_word = c != ' ';
         rest = after;
     }
-    behind
+    trailing
 }
 
-/// What stands after the last word before the character, where `behind` does for those that end before.
-fn behind_word<'a>(in_word: bool, c: char, rest: &'a str, behind: &'a str) -> &'a str
-    ensures { result.now ≡ (if in_word && (c == 0x20) then rest.now else behind.now) }
+/// What stands after the last word before the character, where `trailing` does for those that end before.
+fn rest_after_word<'a>(in_word: bool, c: char, rest: &'a str, trailing: &'a str) -> &'a str
+    ensures { result.now ≡ (if in_word && (c == 0x20) then rest.now else trailing.now) }
 {
-    if in_word && c == ' ' { rest } else { behind }
+    if in_word && c == ' ' { rest } else { trailing }
 }
 
 fn is_word_or_space(c: char, width: usize) -> bool

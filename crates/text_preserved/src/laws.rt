@@ -3,8 +3,8 @@ ghost use Rattle.std.specs.Prelude.{◌≡◌, ℕ, ◌≤◌, Bool, false, List
 ghost use Rattle.text_lines.specs.Tagged.{line_columns, characters};
 ghost use Rattle.text_pieces.specs.Sources.{Source};
 ghost use Rattle.text_pieces.specs.Retagged.{reitem, resource};
-ghost use Rattle.text_preserved.specs.Preserved.{preserved_lines, preserved_waiting, is_too_wide, trimmed, markers_of};
-ghost use Rattle.text_preserved.specs.Preserved.{names_of};
+ghost use Rattle.text_preserved.specs.Preserved.{is_too_wide, markers_of, names_of, preserved_lines, preserved_waiting};
+ghost use Rattle.text_preserved.specs.Preserved.{trimmed};
 ghost use Rattle.text_preserved.specs.LawWords.{is_shown, codes_of, ArePlain, source_columns, as_it_stands, one_line};
 
 use text_lines::EqualCopy;

@@ -1,10 +1,8 @@
 //! Lines that are being laid.
-ghost use Rattle.std.specs.Prelude.{◌≡◌, ◌≤◌, ◌+◌, nat_le, [], length, chars, string_bytes, OnOk, IfOk};
-ghost use Rattle.std.specs.Prelude.{IsUtf8};
+ghost use Rattle.std.specs.Prelude.{◌≡◌, ◌≤◌, ◌+◌, [], IfOk, IsUtf8, OnOk, chars, length, nat_le, string_bytes};
 ghost use Rattle.text_lines.specs.Tagged.{line_items, element_items, character, marker, tagged};
-ghost use Rattle.text_preserved.specs.Preserved.{nothing_laid, has_text, line_text, line_taken, fresh, with_room};
-ghost use Rattle.text_preserved.specs.Preserved.{written, put, put_all, lay_blank};
-ghost use Rattle.text_preserved.specs.Preserved.{chosen};
+ghost use Rattle.text_preserved.specs.Preserved.{chosen, fresh, has_text, lay_blank, line_taken, line_text};
+ghost use Rattle.text_preserved.specs.Preserved.{nothing_laid, put, put_all, with_room, written};
 
 use crate::fronts::fitting_front;
 use std::alloc::{AllocError, Global};

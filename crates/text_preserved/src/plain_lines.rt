@@ -1,11 +1,11 @@
 //! Source lines that are one line, as they stand.
-ghost use Rattle.std.specs.Prelude.{◌≡◌, ◌≤◌, ◌∷◌, ◌++◌, [], true, All, None, chars, length, map, take};
-ghost use Rattle.std.specs.Prelude.{IfOk, IfSome, IsTrue, OnOk};
+ghost use Rattle.std.specs.Prelude.{◌≡◌, ◌≤◌, ◌∷◌, ◌++◌, [], All, IfOk, IfSome, IsTrue, None, OnOk, chars, length, map};
+ghost use Rattle.std.specs.Prelude.{take, true};
 ghost use Rattle.text_lines.specs.Columns.{text_columns};
 ghost use Rattle.text_lines.specs.Tagged.{line_items, IsJoined};
 ghost use Rattle.text_pieces.specs.Sources.{fragment, sourced, sources_of, names};
 ghost use Rattle.text_preserved.specs.Fronts.{BeginsSolid};
-ghost use Rattle.text_preserved.specs.PlainLines.{IsOnlyLine, IsPlainFront, IsPrintable, IsPlainCut, MakesLine};
+ghost use Rattle.text_preserved.specs.PlainLines.{IsOnlyLine, IsPlainCut, IsPlainFront, IsPrintable, MakesLine};
 ghost use Rattle.text_preserved.specs.PlainLines.{lead_items};
 ghost use Rattle.text_preserved.specs.Trimming.{IsFrontOf};
 

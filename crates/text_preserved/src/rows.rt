@@ -5,7 +5,7 @@ ghost use Rattle.text_preserved.specs.RowWords.{lines_of, tagged_of, unwrapped, 
 /// Where lines do not break at white space: a body is cut by columns, from the line that it begins on.
 fn bodies_are_cut()
     ensures wide { lines_of 4 unwrapped (codes "abcdef") ≡ codes "abcd" ∷ codes "ef" ∷ [] }
-    ensures behind { lines_of 5 unwrapped (codes "ab   cdef") ≡ codes "ab   " ∷ codes "cdef" ∷ [] }
+    ensures trailing { lines_of 5 unwrapped (codes "ab   cdef") ≡ codes "ab   " ∷ codes "cdef" ∷ [] }
     ensures indented { lines_of 4 unwrapped (codes "  abc") ≡ codes "  " ∷ codes "abc" ∷ [] }
     ensures narrow { lines_of 2 unwrapped (codes "     abc") ≡ codes " a" ∷ codes "bc" ∷ [] }
 {}

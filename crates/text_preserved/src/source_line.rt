@@ -1,10 +1,10 @@
 //! The pass over a source line.
-ghost use Rattle.std.specs.Prelude.{◌≡◌, ◌≤◌, ◌+◌, ◌++◌, ◌&&◌, ◌||◌, not, true, nat_lt, length, chars, OnOk, IfOk};
-ghost use Rattle.std.specs.Prelude.{IfErr, map, All, IsUtf8};
+ghost use Rattle.std.specs.Prelude.{◌≡◌, ◌≤◌, ◌+◌, ◌++◌, ◌&&◌, ◌||◌, All, IfErr, IfOk, IsUtf8, OnOk, chars, length};
+ghost use Rattle.std.specs.Prelude.{map, nat_lt, not, true};
 ghost use Rattle.text_lines.specs.Tagged.{line_items, line_columns, IsJoined};
 ghost use Rattle.text_pieces.specs.Sources.{names};
-ghost use Rattle.text_preserved.specs.Pass.{new_pass, begins, lettered, closed, stopped, read_letter};
-ghost use Rattle.text_preserved.specs.Pass.{read_marker, read_at, finished, left_markers};
+ghost use Rattle.text_preserved.specs.Pass.{begins, closed, finished, left_markers, lettered, new_pass, read_at};
+ghost use Rattle.text_preserved.specs.Pass.{read_letter, read_marker, stopped};
 ghost use Rattle.text_preserved.specs.Preserved.{white, taken};
 ghost use Rattle.text_preserved.specs.Fronts.{all_lettered, words_laid, IsSteady};
 
@@ -271,8 +271,8 @@ impl<T: EqualCopy + Drop> SourceLine<T> {
         ensures kinds { IfErr result (λ e. e ≡ BlockError.Memory) }
     {
         let SourceLine { rows, word, .. } = self;
-        let behind = names_before(&word, Vec::new(alloc))?;
-        let waiting = names_before(&rows.line, behind)?;
+        let trailing = names_before(&word, Vec::new(alloc))?;
+        let waiting = names_before(&rows.line, trailing)?;
         let Rows { done, .. } = rows;
         Ok(LaidText {
             lines: done,

@@ -1,6 +1,6 @@
 //! Blocks of text.
-ghost use Rattle.std.specs.Prelude.{◌≡◌, ◌⊎◌, true, false, None, Some, map, chars, is_err, All, IfOk, IfErr, OnOk};
-ghost use Rattle.std.specs.Prelude.{if◌then◌else◌};
+ghost use Rattle.std.specs.Prelude.{◌≡◌, ◌⊎◌, if◌then◌else◌, All, IfErr, IfOk, None, OnOk, Some, chars, false, is_err};
+ghost use Rattle.std.specs.Prelude.{map, true};
 ghost use Rattle.text_pieces.specs.Sources.{names};
 ghost use Rattle.text_lines.specs.Tagged.{line_items, IsJoined};
 
@@ -17,12 +17,8 @@ pub struct WrappedBlock<T> {
 }
 
 impl<T: EqualCopy + Drop> WrappedBlock<T> {
-    ghost use Rattle.text_wrapping.specs.Blocks.{block_of, has_failed, empty_block, added, ended_lines};
-    ghost use Rattle.text_wrapping.specs.Blocks.{fragments_taken, marked_by, broken, has_columns, HasJoinedLines};
-    ghost use Rattle.text_wrapping.specs.Blocks.{block_of, has_failed, empty_block, added};
-    ghost use Rattle.text_wrapping.specs.Blocks.{ended_lines, fragments_taken};
-    ghost use Rattle.text_wrapping.specs.Blocks.{marked_by, broken};
-    ghost use Rattle.text_wrapping.specs.Blocks.{has_columns, HasJoinedLines};
+    ghost use Rattle.text_wrapping.specs.Blocks.{HasJoinedLines, added, block_of, broken, empty_block, ended_lines};
+    ghost use Rattle.text_wrapping.specs.Blocks.{fragments_taken, has_columns, has_failed, marked_by};
     ghost use Rattle.text_pieces.specs.Sources.{names};
 
     /// An empty block of lines of at most `width` columns. With `pad_blocks` each line is filled to the

@@ -29,15 +29,15 @@ abbrev pub heeds : ParseErrors → ℕ → Bool
 heeds errors c = c == 0 || is_watching errors || (is_exact errors && is_noncharacter c)
 
 -- the errors that were found before come first, in their order, and the wording is as it was
-pub record GoesOn (before behind : ParseErrors) : Type 0 where
-  pub wording : is_exact behind ≡ is_exact before
+pub record GoesOn (before trailing : ParseErrors) : Type 0 where
+  pub wording : is_exact trailing ≡ is_exact before
   pub more : List FoundError
-  pub order : found_of behind ≡ found_of before ++ more
+  pub order : found_of trailing ≡ found_of before ++ more
 
 -- one more error is found, on a line
-pub record HasOneMore (before : ParseErrors) (line : ℕ) (behind : ParseErrors) : Type 0 where
+pub record HasOneMore (before : ParseErrors) (line : ℕ) (trailing : ParseErrors) : Type 0 where
   pub error : FoundError
-  pub order : found_of behind ≡ found_of before ++ error ∷ []
+  pub order : found_of trailing ≡ found_of before ++ error ∷ []
   pub on_line : error.line ≡ line
 
 -- text of a script within `<!--`

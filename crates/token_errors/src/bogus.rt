@@ -2,7 +2,7 @@ ghost use Rattle.std.specs.Prelude.{◌≡◌, false};
 ghost use Rattle.token_errors.specs.Found.{GoesOn, is_watching};
 
 use crate::ParseErrors;
-use crate::characters::{is_bad, line_behind};
+use crate::characters::{is_bad, line_after};
 use html_lexemes::states::State;
 use std::alloc::AllocError;
 
@@ -27,7 +27,7 @@ impl ParseErrors {
             self.saw(opening, '!', line)?;
         }
         'characters: for (at, c) in text.char_indices() {
-            line = line_behind(line, c);
+            line = line_after(line, c);
             self.at_character(c, line)?;
             if at == 0 && is_bad(opening, c) {
                 self.saw(opening, c, line)?;

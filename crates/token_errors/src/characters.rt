@@ -6,7 +6,7 @@ ghost use Rattle.token_errors.specs.Noncharacters.{is_noncharacter};
 use html_lexemes::states::{AttrValueKind, State};
 
 /// The line after a character.
-pub(crate) fn line_behind(line: u64, c: char) -> u64 {
+pub(crate) fn line_after(line: u64, c: char) -> u64 {
     if c == '\n' {
         line.saturating_add(1)
     } else {

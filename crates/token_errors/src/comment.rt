@@ -2,7 +2,7 @@ ghost use Rattle.std.specs.Prelude.{◌≡◌, false};
 ghost use Rattle.token_errors.specs.Found.{GoesOn, is_watching};
 
 use crate::ParseErrors;
-use crate::characters::{line_behind, state_at_end};
+use crate::characters::{line_after, state_at_end};
 use html_lexemes::states::State;
 use std::alloc::AllocError;
 
@@ -17,7 +17,7 @@ impl ParseErrors {
         self.leave_name();
         let mut state = State::CommentStart;
         'characters: for c in text.chars() {
-            line = line_behind(line, c);
+            line = line_after(line, c);
             if matches!(state, State::Comment) && self.is_plain_in_comment(c) {
                 continue;
             }
@@ -32,7 +32,7 @@ impl ParseErrors {
 
     // Whether a character within a comment is no error, and begins nothing.
     fn is_plain_in_comment(&self, c: char) -> bool {
-        !matches!(c, '\0' | '<' | '-') && !self.tells_character(c)
+        !matches!(c, '\0' | '<' | '-') && !self.emits_character(c)
     }
 }
 
@@ -55,9 +55,9 @@ fn comment_state(state: State, c: char) -> Option<State> {
 }
 
 // The same where `>` ends the comment and a dash leads to a state.
-fn start_state(c: char, behind_dash: State) -> Option<State> {
+fn start_state(c: char, after_dash: State) -> Option<State> {
     match c {
-        '-' => Some(behind_dash),
+        '-' => Some(after_dash),
         '>' => None,
         _ => Some(State::Comment),
     }

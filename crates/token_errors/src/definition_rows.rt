@@ -31,7 +31,7 @@ fn characters_of_rows()
     ensures before_the_block { is_noncharacter 0xFDCF ≡ false }
     ensures block { is_noncharacter 0xFDD0 ≡ true }
     ensures end_of_the_block { is_noncharacter 0xFDEF ≡ true }
-    ensures behind_the_block { is_noncharacter 0xFDF0 ≡ false }
+    ensures after_the_block { is_noncharacter 0xFDF0 ≡ false }
     ensures replacement { is_noncharacter 0xFFFD ≡ false }
     ensures end_of_the_first_plane { is_noncharacter 0xFFFE ≡ true }
     ensures second_plane { is_noncharacter 0x10000 ≡ false }

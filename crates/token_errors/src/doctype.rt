@@ -2,7 +2,7 @@ ghost use Rattle.std.specs.Prelude.{◌≡◌, false};
 ghost use Rattle.token_errors.specs.Found.{GoesOn, is_watching};
 
 use crate::ParseErrors;
-use crate::characters::{is_space, line_behind};
+use crate::characters::{is_space, line_after};
 use html_lexemes::states::{DoctypeIdKind, State};
 use std::alloc::AllocError;
 
@@ -21,7 +21,7 @@ impl ParseErrors {
         let mut state = State::Doctype;
         let mut keyword_end = 0;
         'characters: for (at, c) in text.char_indices() {
-            line = line_behind(line, c);
+            line = line_after(line, c);
             if at < keyword_end {
                 continue;
             }
@@ -91,11 +91,11 @@ fn doctype_state(state: State, c: char) -> Option<State> {
 }
 
 // The same where an identifier may begin, and white space leads to a state.
-fn before_identifier(behind_space: State, kind: DoctypeIdKind, c: char) -> State {
+fn before_identifier(after_space: State, kind: DoctypeIdKind, c: char) -> State {
     match c {
         '"' => State::DoctypeIdentifierDoubleQuoted(kind),
         '\'' => State::DoctypeIdentifierSingleQuoted(kind),
-        _ if is_space(c) => behind_space,
+        _ if is_space(c) => after_space,
         _ => State::BogusDoctype,
     }
 }

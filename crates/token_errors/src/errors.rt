@@ -26,7 +26,7 @@ pub struct ParseErrors {
     // the letters and digits after a `&` that begin with no name of the table, as long as a `;` may follow them
     watched: Option<String>,
     // the character that is read next as text was reported as bad already
-    was_told: bool,
+    was_emitted: bool,
 }
 
 impl ParseErrors {
@@ -40,7 +40,7 @@ impl ParseErrors {
             exact,
             found: Vec::new(alloc),
             watched: None,
-            was_told: false,
+            was_emitted: false,
         }
     }
 
@@ -67,7 +67,7 @@ impl ParseErrors {
     pub fn heeds(&self, c: char) -> bool
         ensures { result ≡ heeds self.now c }
     {
-        c == '\0' || self.watched.is_some() || self.tells_character(c)
+        c == '\0' || self.watched.is_some() || self.emits_character(c)
     }
 
     pub(crate) fn alloc(&self) -> Global {
@@ -75,12 +75,12 @@ impl ParseErrors {
     }
 
     // Whether some characters are emitted wherever they stand.
-    pub(crate) fn tells_characters(&self) -> bool {
+    pub(crate) fn emits_characters(&self) -> bool {
         self.exact
     }
 
     // Whether a character is emitted wherever it stands.
-    pub(crate) fn tells_character(&self, c: char) -> bool
+    pub(crate) fn emits_character(&self, c: char) -> bool
         ensures { result ≡ (is_exact self.now && is_noncharacter c) }
     {
         self.exact && is_noncharacter(u32::from(c))
@@ -91,7 +91,7 @@ impl ParseErrors {
         ensures found { GoesOn self.old self.new }
         ensures watched { is_watching self.new ≡ is_watching self.old }
     {
-        self.was_told = self.tells_character(c);
+        self.was_emitted = self.emits_character(c);
     }
 
     // Whether the next character of text, which this is, was read before.
@@ -99,7 +99,7 @@ impl ParseErrors {
         ensures found { GoesOn self.old self.new }
         ensures watched { is_watching self.new ≡ is_watching self.old }
     {
-        mem::replace(&mut self.was_told, false) && self.tells_character(c)
+        mem::replace(&mut self.was_emitted, false) && self.emits_character(c)
     }
 
     // Begins to watch for the `;` of an unknown name.
@@ -136,24 +136,24 @@ impl ParseErrors {
             return Ok(());
         }
         if c == ';' && !name.is_empty() {
-            return self.tell_unknown_name(name.as_str(), line);
+            return self.emit_unknown_name(name.as_str(), line);
         }
         Ok(())
     }
 
-    fn tell_unknown_name(&mut self, name: &str, line: u64) -> Result<(), AllocError>
+    fn emit_unknown_name(&mut self, name: &str, line: u64) -> Result<(), AllocError>
         ensures found { GoesOn self.old self.new }
     {
         if !self.exact {
-            return self.tell("Invalid character reference", line);
+            return self.emit("Invalid character reference", line);
         }
         let alloc = self.alloc();
         let message = format!(in alloc; "Invalid character reference &{name};")?;
-        self.tell_made(message, line)
+        self.emit_made(message, line)
     }
 
     // Finds an error of a fixed wording.
-    pub(crate) fn tell(&mut self, message: &'static str, line: u64) -> Result<(), AllocError>
+    pub(crate) fn emit(&mut self, message: &'static str, line: u64) -> Result<(), AllocError>
         ensures found { GoesOn self.old self.new }
         ensures watched { is_watching self.new ≡ is_watching self.old }
         ensures one { OnOk result (HasOneMore self.old line self.new) }
@@ -163,7 +163,7 @@ impl ParseErrors {
         Ok(())
     }
 
-    fn tell_made(&mut self, message: String, line: u64) -> Result<(), AllocError>
+    fn emit_made(&mut self, message: String, line: u64) -> Result<(), AllocError>
         ensures found { GoesOn self.old self.new }
         ensures watched { is_watching self.new ≡ is_watching self.old }
         ensures one { OnOk result (HasOneMore self.old line self.new) }
@@ -174,16 +174,16 @@ impl ParseErrors {
     }
 
     // Finds that a number stands for no character, or for none that may be written so.
-    pub(crate) fn tell_number(&mut self, code: u32, line: u64) -> Result<(), AllocError>
+    pub(crate) fn emit_number(&mut self, code: u32, line: u64) -> Result<(), AllocError>
         ensures found { GoesOn self.old self.new }
         ensures watched { is_watching self.new ≡ is_watching self.old }
     {
         if !self.exact {
-            return self.tell("Invalid numeric character reference", line);
+            return self.emit("Invalid numeric character reference", line);
         }
         let alloc = self.alloc();
         let message = format!(in alloc; "Invalid numeric character reference value 0x{code:06X}")?;
-        self.tell_made(message, line)
+        self.emit_made(message, line)
     }
 
     // Finds that a character has no place in a state.
@@ -192,11 +192,11 @@ impl ParseErrors {
         ensures watched { is_watching self.new ≡ is_watching self.old }
     {
         if !self.exact {
-            return self.tell("Bad character", line);
+            return self.emit("Bad character", line);
         }
         let alloc = self.alloc();
         let message = format!(in alloc; "Saw {c} in state {state:?}")?;
-        self.tell_made(message, line)
+        self.emit_made(message, line)
     }
 
     // Finds that the page ends in a state.
@@ -206,11 +206,11 @@ impl ParseErrors {
         ensures one { OnOk result (HasOneMore self.old line self.new) }
     {
         if !self.exact {
-            return self.tell("Unexpected EOF", line);
+            return self.emit("Unexpected EOF", line);
         }
         let alloc = self.alloc();
         let message = format!(in alloc; "Saw EOF in state {state:?}")?;
-        self.tell_made(message, line)
+        self.emit_made(message, line)
     }
 
     // Takes a character from the page.
@@ -218,12 +218,12 @@ impl ParseErrors {
         ensures found { GoesOn self.old self.new }
         ensures watched { is_watching self.new ≡ is_watching self.old }
     {
-        if !self.tells_character(c) {
+        if !self.emits_character(c) {
             return Ok(());
         }
         let alloc = self.alloc();
         let message = format!(in alloc; "Bad character {c}")?;
-        self.tell_made(message, line)
+        self.emit_made(message, line)
     }
 
     // Finds that a character has no place in a state, where it has none.

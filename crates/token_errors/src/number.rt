@@ -9,7 +9,7 @@ pub(crate) struct Number {
     /// Whether there is a digit.
     pub(crate) has_digits: bool,
     /// The character after them, or `None` at the end of the text.
-    pub(crate) behind: Option<char>,
+    pub(crate) trailing: Option<char>,
 }
 
 impl Number {
@@ -26,13 +26,13 @@ impl Number {
             code: 0,
             is_too_large: false,
             has_digits: false,
-            behind: None,
+            trailing: None,
         };
         for c in text.chars() {
             match c.to_digit(16) {
                 Some(digit) if digit < radix => number.push(radix, digit),
                 _ => {
-                    number.behind = Some(c);
+                    number.trailing = Some(c);
                     break;
                 }
             }

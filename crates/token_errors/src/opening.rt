@@ -2,7 +2,7 @@ ghost use Rattle.std.specs.Prelude.{◌≡◌, false, None, OnOk};
 ghost use Rattle.token_errors.specs.Found.{GoesOn, HasOneMore, is_watching};
 
 use crate::ParseErrors;
-use crate::characters::line_behind;
+use crate::characters::line_after;
 use html_lexemes::states::State;
 use std::alloc::AllocError;
 
@@ -19,7 +19,7 @@ impl ParseErrors {
         let Some(c) = next else {
             return self.saw_end(State::TagOpen, line);
         };
-        let line = line_behind(line, c);
+        let line = line_after(line, c);
         self.at_character(c, line)?;
         self.reads_again(c);
         self.look_at(State::TagOpen, c, line)

@@ -16,23 +16,23 @@ pub(crate) enum Passing {
 }
 
 /// What follows the characters in front of a text that are no error in a state, and begin and end nothing.
-pub(crate) fn behind_run(passing: Passing, state: State, text: &str) -> &str
+pub(crate) fn after_run(passing: Passing, state: State, text: &str) -> &str
     ensures { length result.now ≤ length text.now }
 {
     match (passing, state) {
         (Passing::Nothing, _) => text,
-        (_, State::TagName) => behind_tag_name(text),
-        (Passing::All, State::AttributeName) => behind_name(text),
-        (_, State::AttributeValue(AttrValueKind::Unquoted)) => behind_unquoted(text),
-        (_, State::AttributeValue(AttrValueKind::SingleQuoted)) => behind_single_quoted(text),
-        (_, State::AttributeValue(AttrValueKind::DoubleQuoted)) => behind_double_quoted(text),
+        (_, State::TagName) => after_tag_name(text),
+        (Passing::All, State::AttributeName) => after_name(text),
+        (_, State::AttributeValue(AttrValueKind::Unquoted)) => after_unquoted(text),
+        (_, State::AttributeValue(AttrValueKind::SingleQuoted)) => after_single_quoted(text),
+        (_, State::AttributeValue(AttrValueKind::DoubleQuoted)) => after_double_quoted(text),
         _ => text,
     }
 }
 
 /// What follows an attribute after a space, with a name and a value in double quotes, in which nothing is an error.
 /// `None` is another text, or a state in which none may stand.
-pub(crate) fn behind_attribute(passing: Passing, state: State, text: &str) -> Option<&str>
+pub(crate) fn after_attribute(passing: Passing, state: State, text: &str) -> Option<&str>
     ensures shorter { IfSome result (λ r. length r.now < length text.now) }
     ensures utf8 { IfSome result (λ r. IsUtf8 r.now) }
 {
@@ -42,22 +42,22 @@ pub(crate) fn behind_attribute(passing: Passing, state: State, text: &str) -> Op
         return None;
     }
     let name = text.strip_prefix(' ')?;
-    let behind = behind_name(name);
-    if behind.len() == name.len() {
+    let trailing = after_name(name);
+    if trailing.len() == name.len() {
         return None;
     }
-    let value = behind.strip_prefix('=')?.strip_prefix('"')?;
-    behind_double_quoted(value).strip_prefix('"')
+    let value = trailing.strip_prefix('=')?.strip_prefix('"')?;
+    after_double_quoted(value).strip_prefix('"')
 }
 
-fn behind_tag_name(text: &str) -> &str
+fn after_tag_name(text: &str) -> &str
     ensures { length result.now ≤ length text.now }
 {
     let end = text.bytes().position(|b| matches!(b, b'\t' | b'\n' | 0xc | b' ' | b'/' | b'>' | 0));
     text_from(text, end)
 }
 
-fn behind_name(text: &str) -> &str
+fn after_name(text: &str) -> &str
     ensures { length result.now ≤ length text.now }
 {
     let end = text.bytes().position(|b| {
@@ -69,7 +69,7 @@ fn behind_name(text: &str) -> &str
     text_from(text, end)
 }
 
-fn behind_unquoted(text: &str) -> &str
+fn after_unquoted(text: &str) -> &str
     ensures { length result.now ≤ length text.now }
 {
     let end = text.bytes().position(|b| {
@@ -81,7 +81,7 @@ fn behind_unquoted(text: &str) -> &str
     text_from(text, end)
 }
 
-fn behind_single_quoted(text: &str) -> &str
+fn after_single_quoted(text: &str) -> &str
     ensures { length result.now ≤ length text.now }
 {
     let end = text
@@ -90,7 +90,7 @@ fn behind_single_quoted(text: &str) -> &str
     text_from(text, end)
 }
 
-fn behind_double_quoted(text: &str) -> &str
+fn after_double_quoted(text: &str) -> &str
     ensures { length result.now ≤ length text.now }
 {
     let end = text

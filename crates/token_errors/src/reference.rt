@@ -71,10 +71,10 @@ impl ParseErrors {
         }
         match table.longest_name(text) {
             Some(reference) if reference.name.ends_with(';') => Ok(()),
-            Some(reference) => match character_behind(reference, text) {
-                Some('=') => self.tell("Equals sign after character reference in attribute", line),
+            Some(reference) => match character_after(reference, text) {
+                Some('=') => self.emit("Equals sign after character reference in attribute", line),
                 Some(c) if c.is_ascii_alphanumeric() => Ok(()),
-                _ => self.tell("Character reference does not end with semicolon", line),
+                _ => self.emit("Character reference does not end with semicolon", line),
             },
             None => {
                 self.in_unknown_name(text, line)?;
@@ -106,14 +106,14 @@ impl ParseErrors {
         ensures watched { is_watching self.new ≡ is_watching self.old }
     {
         if is_last && text.is_empty() {
-            return self.tell("EOF after '#' in character reference", line);
+            return self.emit("EOF after '#' in character reference", line);
         }
         let number = Number::read(text);
         if !number.has_digits {
-            return self.tell("Numeric character reference without digits", line);
+            return self.emit("Numeric character reference without digits", line);
         }
         if !number.is_valid() {
-            self.tell_number(number.code, line)?;
+            self.emit_number(number.code, line)?;
         }
         Ok(())
     }
@@ -128,15 +128,15 @@ impl ParseErrors {
         if !number.has_digits {
             return Ok(());
         }
-        match number.behind {
+        match number.trailing {
             Some(';') => Ok(()),
-            None => self.tell("EOF in numeric character reference", line),
-            Some(_) => self.tell("Semicolon missing after numeric character reference", line),
+            None => self.emit("EOF in numeric character reference", line),
+            Some(_) => self.emit("Semicolon missing after numeric character reference", line),
         }
     }
 }
 
 // The character after a name that a text begins with.
-fn character_behind(reference: NamedReference<'_>, text: &str) -> Option<char> {
+fn character_after(reference: NamedReference<'_>, text: &str) -> Option<char> {
     text.strip_prefix(reference.name)?.chars().next()
 }

@@ -2,9 +2,9 @@ ghost use Rattle.std.specs.Prelude.{◌≡◌, false, OnOk};
 ghost use Rattle.token_errors.specs.Found.{GoesOn, is_watching};
 
 use crate::ParseErrors;
-use crate::characters::{is_space, line_behind, state_at_end};
+use crate::characters::{is_space, line_after, state_at_end};
 use crate::names::AttributeNames;
-use crate::plain_parts::{Passing, behind_attribute, behind_run, first_and_rest};
+use crate::plain_parts::{Passing, after_attribute, after_run, first_and_rest};
 use html_lexemes::states::{AttrValueKind, State};
 use html_lexemes::{ReferenceTable, TagKind};
 use std::alloc::AllocError;
@@ -31,18 +31,18 @@ impl ParseErrors {
         let mut state = State::TagName;
         let mut rest = text;
         'characters: loop {
-            let here = behind_run(passing, state, rest);
-            if let Some(behind) = behind_attribute(passing, state, here) {
+            let here = after_run(passing, state, rest);
+            if let Some(trailing) = after_attribute(passing, state, here) {
                 names.pass();
                 state = State::AfterAttributeValueQuoted;
-                rest = behind;
+                rest = trailing;
                 continue;
             }
-            let Some((c, behind)) = first_and_rest(here) else {
+            let Some((c, trailing)) = first_and_rest(here) else {
                 return self.saw_end(state_at_end(state), line);
             };
-            rest = behind;
-            line = line_behind(line, c);
+            rest = trailing;
+            line = line_after(line, c);
             let reading = self.read_in_tag(table, state, c, here, line)?;
             let Some(next) = tag_state(reading, c) else {
                 let is_self_closing = matches!(reading, State::SelfClosingStartTag);
@@ -55,7 +55,7 @@ impl ParseErrors {
 
     // What of a tag is passed over. Every character may be an error where the wording is exact.
     fn passing(&self, may_repeat: bool) -> Passing {
-        if self.tells_characters() {
+        if self.emits_characters() {
             Passing::Nothing
         } else if may_repeat {
             Passing::AllButNames
@@ -112,7 +112,7 @@ impl ParseErrors {
         ensures watched { is_watching self.new ≡ is_watching self.old }
     {
         if names.finish()? {
-            self.tell("Duplicate attribute", line)?;
+            self.emit("Duplicate attribute", line)?;
         }
         Ok(())
     }
@@ -133,10 +133,10 @@ impl ParseErrors {
             return Ok(());
         }
         if !names.is_empty() {
-            self.tell("Attributes on an end tag", line)?;
+            self.emit("Attributes on an end tag", line)?;
         }
         if is_self_closing {
-            self.tell("Self-closing end tag", line)?;
+            self.emit("Self-closing end tag", line)?;
         }
         Ok(())
     }
@@ -158,7 +158,7 @@ fn tag_state(state: State, c: char) -> Option<State> {
             '=' if matches!(state, State::AttributeName | State::AfterAttributeName) => {
                 Some(State::BeforeAttributeValue)
             }
-            _ if is_space(c) => Some(state_behind_space(state)),
+            _ if is_space(c) => Some(state_after_space(state)),
             _ if state == State::TagName => Some(State::TagName),
             _ => Some(State::AttributeName),
         },
@@ -166,7 +166,7 @@ fn tag_state(state: State, c: char) -> Option<State> {
 }
 
 // The same after white space that is in no value and before none.
-fn state_behind_space(state: State) -> State {
+fn state_after_space(state: State) -> State {
     match state {
         State::AttributeName | State::AfterAttributeName => State::AfterAttributeName,
         _ => State::BeforeAttributeName,

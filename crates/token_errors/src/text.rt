@@ -57,7 +57,7 @@ impl ParseErrors {
     pub fn at_end(&mut self, state: State, line: u64) -> Result<(), AllocError>
         ensures found { GoesOn self.old self.new }
         ensures unwatched { is_watching self.new ≡ false }
-        ensures told { OnOk result (MatchBool (is_error_at_end state) (HasOneMore self.old line self.new) (found_of self.new
+        ensures emitted { OnOk result (MatchBool (is_error_at_end state) (HasOneMore self.old line self.new) (found_of self.new
             ≡ found_of self.old)) }
     {
         self.leave_name();

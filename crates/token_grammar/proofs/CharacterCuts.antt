@@ -1,7 +1,7 @@
 -- A text cut at a character, and a value that is what is written.
-use Rattle.std.proofs.Common.{◌≡◌, ℕ, Bool, true, false, eqb, List, [], ◌∷◌, ◌++◌, arith, not, MatchBool, drop}
-use Rattle.std.proofs.Common.{Option, Some, None, IfSome, IsUtf8, chars, option_map, refl, sym, ap, subst, ◌∙◌}
-use Rattle.std.proofs.Common.{append_assoc, encode_utf8, encode_utf8_all}
+use Rattle.std.proofs.Common.{◌≡◌, [], ◌∷◌, ◌++◌, ◌∙◌, Bool, IfSome, IsUtf8, List, MatchBool, None, Option, Some, ap}
+use Rattle.std.proofs.Common.{append_assoc, arith, chars, drop, encode_utf8, encode_utf8_all, eqb, false, not}
+use Rattle.std.proofs.Common.{option_map, refl, subst, sym, true, ℕ}
 use Rattle.std.proofs.lemmas.Bool.{and_parts}
 use Rattle.std.proofs.lemmas.Bool.Decides.{nat_tests}
 use Rattle.std.proofs.lemmas.List.{take-append-drop}
@@ -18,39 +18,39 @@ use Rattle.token_grammar.specs.Slices.{after, cut, longer}
 
 -- characters after which another one stands, in a text by its bytes
 record IsCutThere (cs front : List ℕ) (c : ℕ) (rest : List ℕ) : Type 0 where
-  behind : List ℕ
-  whole : cs ≡ front ++ c ∷ behind
-  encoded : encode_utf8_all behind ≡ rest
+  trailing : List ℕ
+  whole : cs ≡ front ++ c ∷ trailing
+  encoded : encode_utf8_all trailing ≡ rest
 
 cut_there : (front cs rest : List ℕ) (c : ℕ) → encode_utf8_all cs ≡ encode_utf8_all front ++ (encode_utf8 c ++ rest) →
     IsCutThere cs front c rest
-cut_there [] cs rest c e = let cut = cons_from_encodes cs rest c e in record { behind = cut.0; whole = cut.1; encoded = cut.2 }
+cut_there [] cs rest c e = let cut = cons_from_encodes cs rest c e in record { trailing = cut.0; whole = cut.1; encoded = cut.2 }
 cut_there (f ∷ front) cs rest c e =
     let first =
     cons_from_encodes cs (encode_utf8_all front ++ (encode_utf8 c ++ rest)) f
     (e ∙ append_assoc (encode_utf8 f) (encode_utf8_all front) (encode_utf8 c ++ rest)) in
     let deeper = cut_there front first.0 rest c first.2 in
-    record { behind = deeper.behind; whole = first.1 ∙ ap (λ l. f ∷ l) deeper.whole; encoded = deeper.encoded }
+    record { trailing = deeper.trailing; whole = first.1 ∙ ap (λ l. f ∷ l) deeper.whole; encoded = deeper.encoded }
 
-scalar_parts : (front behind : List ℕ) (c : ℕ) → all_scalars (front ++ c ∷ behind) ≡ true →
-    (all_scalars front ≡ true) × (all_scalars behind ≡ true)
-scalar_parts [] behind c e = (refl, (and_parts (scalar c) (all_scalars behind) e).1)
-scalar_parts (f ∷ front) behind c e =
-    let first = and_parts (scalar f) (all_scalars (front ++ c ∷ behind)) e in
-    let others = scalar_parts front behind c first.1 in
+scalar_parts : (front trailing : List ℕ) (c : ℕ) → all_scalars (front ++ c ∷ trailing) ≡ true →
+    (all_scalars front ≡ true) × (all_scalars trailing ≡ true)
+scalar_parts [] trailing c e = (refl, (and_parts (scalar c) (all_scalars trailing) e).1)
+scalar_parts (f ∷ front) trailing c e =
+    let first = and_parts (scalar f) (all_scalars (front ++ c ∷ trailing)) e in
+    let others = scalar_parts front trailing c first.1 in
     (rw first.0 others.0, others.1)
 
 is_itself : (n : ℕ) → eqb n n ≡ false → ⊥
 is_itself n e = grind (arith, nat_tests)
 
 -- a text cut at a character that none of the front is
-cut_at_first : (mark : ℕ) (front behind : List ℕ) (is_mark : Bool) → eqb mark mark ≡ is_mark →
+cut_at_first : (mark : ℕ) (front trailing : List ℕ) (is_mark : Bool) → eqb mark mark ≡ is_mark →
     NonePass (λ d. eqb d mark) front →
-    cut (after (mark ∷ [])) (front ++ mark ∷ behind) ≡ Some (record { slice = front; rest = behind })
-cut_at_first mark [] behind true e none = rw e refl
-cut_at_first mark [] behind false e none = absurd (is_itself mark e)
-cut_at_first mark (f ∷ front) behind is_mark e none =
-    rw none.0 (ap (option_map (longer f)) (cut_at_first mark front behind is_mark e none.1))
+    cut (after (mark ∷ [])) (front ++ mark ∷ trailing) ≡ Some (record { slice = front; rest = trailing })
+cut_at_first mark [] trailing true e none = rw e refl
+cut_at_first mark [] trailing false e none = absurd (is_itself mark e)
+cut_at_first mark (f ∷ front) trailing is_mark e none =
+    rw none.0 (ap (option_map (longer f)) (cut_at_first mark front trailing is_mark e none.1))
 
 cut_at_none : (mark : ℕ) (cs : List ℕ) → NonePass (λ d. eqb d mark) cs → cut (after (mark ∷ [])) cs ≡ None
 cut_at_none mark [] none = refl
@@ -69,16 +69,16 @@ split_there bs slice rest front mark u e none whole =
     let there =
     cut_there front (chars bs) rest mark (encodes-chars bs u ∙ whole ∙ ap (λ l. l ++ (encode_utf8 mark ++ rest))
     (sym e)) in
-    let are = scalar_parts front there.behind mark (ap all_scalars (sym there.whole) ∙ scalars-chars bs u) in
+    let are = scalar_parts front there.trailing mark (ap all_scalars (sym there.whole) ∙ scalars-chars bs u) in
     let slice_is : chars slice ≡ front = ap chars (sym e) ∙ chars-encodes front are.0 in
-    let rest_is : chars rest ≡ there.behind = ap chars (sym there.encoded) ∙ chars-encodes there.behind are.1 in
+    let rest_is : chars rest ≡ there.trailing = ap chars (sym there.encoded) ∙ chars-encodes there.trailing are.1 in
     record {
       slice_text = (front, (are.0, e));
-      rest_text = (there.behind, (are.1, there.encoded));
+      rest_text = (there.trailing, (are.1, there.encoded));
       is_cut =
           ap (λ (l : List ℕ). Some (record { slice = l; rest = chars rest })) slice_is ∙
           ap (λ (l : List ℕ). Some (record { slice = front; rest = l })) rest_is
-          ∙ sym (ap (cut (after (mark ∷ []))) there.whole ∙ cut_at_first mark front there.behind
+          ∙ sym (ap (cut (after (mark ∷ []))) there.whole ∙ cut_at_first mark front there.trailing
           (eqb mark mark) refl none);
     }
 

@@ -1,6 +1,6 @@
 -- What a doctype is made of, step by step.
-use Rattle.std.proofs.Common.{◌≡◌, ℕ, Bool, true, false, cond, List, [], ◌∷◌, ◌++◌, length, drop, Some, None, eqb, refl}
-use Rattle.std.proofs.Common.{sym, ap, ◌∙◌, arith, IsUtf8, encode_utf8, encode_utf8_all, codes}
+use Rattle.std.proofs.Common.{◌≡◌, [], ◌∷◌, ◌++◌, ◌∙◌, Bool, IsUtf8, List, None, Some, ap, arith, codes, cond, drop}
+use Rattle.std.proofs.Common.{encode_utf8, encode_utf8_all, eqb, false, length, refl, sym, true, ℕ}
 use Rattle.std.specs.Str.{chars}
 use Rattle.std.proofs.lemmas.Bool.{eq-eqb}
 use Rattle.std.proofs.lemmas.Bool.Decides.{nat_tests}
@@ -11,12 +11,11 @@ use Rattle.std.specs.Char.{to_ascii_lowercase}
 use Rattle.html_lexemes.specs.declared.token.Doctype.{Doctype}
 use Rattle.token_grammar.specs.Characters.{name_of, shown_text}
 use Rattle.token_grammar.specs.Classes.{is_of}
-use Rattle.token_grammar.specs.Doctypes.{DoctypeEnd, behind_identifier, behind_keyword, behind_public, behind_spaces}
-use Rattle.token_grammar.specs.Doctypes.{behind_system, closed_public, doctype_at, ends_here, identifier, is_quote}
+use Rattle.token_grammar.specs.Doctypes.{DoctypeEnd, after_identifier, after_keyword, after_public, after_spaces}
+use Rattle.token_grammar.specs.Doctypes.{after_system, closed_public, doctype_at, ends_here, identifier, is_quote}
 use Rattle.token_grammar.specs.Doctypes.{named_doctype, public_at, skipped, system_at, system_or, with_public}
 use Rattle.token_grammar.specs.Doctypes.{with_quirks}
-use Rattle.token_grammar.specs.Slices.{after_word}
-use Rattle.token_grammar.specs.Slices.{after, begins, begins_word, first_passes, front_while, rest_while}
+use Rattle.token_grammar.specs.Slices.{after, after_word, begins, begins_word, first_passes, front_while, rest_while}
 use Rattle.token_grammar.specs.Tags.{without_spaces}
 use Rattle.token_grammar.specs.declared.slices.CharacterClass.TheVariants.{Identifier, Unquoted}
 
@@ -76,18 +75,18 @@ pub ends_here-none : (d : Doctype) (cs : List ℕ) → None ≡ after (codes ">"
     skipped (with_quirks d) cs ≡ ends_here d cs
 ends_here-none d cs h = none_by (begins (codes ">") cs) (drop 1 cs) _ _ h
 
-pub behind_system-end : (d : Doctype) (text : List ℕ) → length text ≡ 0 → skipped (with_quirks d) (chars text)
-    ≡ behind_system d (chars text)
-behind_system-end d text e =
-    ap (skipped (with_quirks d)) (no_chars text e) ∙ sym (ap (behind_system d) (no_chars text e))
+pub after_system-end : (d : Doctype) (text : List ℕ) → length text ≡ 0 → skipped (with_quirks d) (chars text)
+    ≡ after_system d (chars text)
+after_system-end d text e =
+    ap (skipped (with_quirks d)) (no_chars text e) ∙ sym (ap (after_system d) (no_chars text e))
 
-some_left : (d : Doctype) (cs : List ℕ) → (cs ≡ [] → ⊥) → skipped d cs ≡ behind_system d cs
+some_left : (d : Doctype) (cs : List ℕ) → (cs ≡ [] → ⊥) → skipped d cs ≡ after_system d cs
 some_left d [] h = absurd (h refl)
 some_left d (c ∷ cs) h = refl
 
-pub behind_system-more : (d : Doctype) (text : List ℕ) → IsUtf8 text → (length text ≡ 0 → ⊥) →
-    skipped d (chars text) ≡ behind_system d (chars text)
-behind_system-more d text u h =
+pub after_system-more : (d : Doctype) (text : List ℕ) → IsUtf8 text → (length text ≡ 0 → ⊥) →
+    skipped d (chars text) ≡ after_system d (chars text)
+after_system-more d text u h =
     some_left d (chars text) (λ e. h (ap length (sym (encodes-chars text u) ∙ ap encode_utf8_all e)))
 
 -- an identifier that its quote closes
@@ -110,7 +109,7 @@ system_or-other d otherwise (c ∷ cs) h = sym (ap (λ b. cond b (system_at d c 
 -- an identifier, what follows it, and what its quote closes
 pub record IsIdentifier (q : ℕ) (cs id rest : List ℕ) : Type 0 where
   pub id_is : id ≡ identifier q cs
-  pub rest_is : rest ≡ behind_identifier q cs
+  pub rest_is : rest ≡ after_identifier q cs
 
 pub IsIdentifier-read : (q : ℕ) (cs slice id rest : List ℕ) → slice ≡ front_while (is_of (Identifier q)) cs →
     rest ≡ rest_while (is_of (Identifier q)) cs → id ≡ shown_text slice → IsIdentifier q cs id rest
@@ -123,25 +122,25 @@ public_at-is d q cs id rest h =
     ap (closed_public q (with_public d (identifier q cs))) h.rest_is
 
 -- the words after a name
-pub behind_keyword-public : (d : Doctype) (cs rest : List ℕ) → Some rest ≡ after_word (codes "public") cs →
-    behind_public d (without_spaces rest) ≡ behind_keyword d cs
-behind_keyword-public d cs rest h =
-    some_by (begins_word (codes "public") cs) (drop 6 cs) rest (λ r. behind_public d (without_spaces r)) _ h
+pub after_keyword-public : (d : Doctype) (cs rest : List ℕ) → Some rest ≡ after_word (codes "public") cs →
+    after_public d (without_spaces rest) ≡ after_keyword d cs
+after_keyword-public d cs rest h =
+    some_by (begins_word (codes "public") cs) (drop 6 cs) rest (λ r. after_public d (without_spaces r)) _ h
 
-pub behind_keyword-system : (d : Doctype) (cs rest : List ℕ) → None ≡ after_word (codes "public") cs →
+pub after_keyword-system : (d : Doctype) (cs rest : List ℕ) → None ≡ after_word (codes "public") cs →
     Some rest ≡ after_word (codes "system") cs → system_or d (skipped (with_quirks d)) (without_spaces rest)
-    ≡ behind_keyword d cs
-behind_keyword-system d cs rest none h =
+    ≡ after_keyword d cs
+after_keyword-system d cs rest none h =
     some_by (begins_word (codes "system") cs) (drop 6 cs) rest
     (λ r. system_or d (skipped (with_quirks d)) (without_spaces r)) (ends_here d cs) h
-    ∙ none_by (begins_word (codes "public") cs) (drop 6 cs) (behind_public d (without_spaces (drop 6 cs))) _ none
+    ∙ none_by (begins_word (codes "public") cs) (drop 6 cs) (after_public d (without_spaces (drop 6 cs))) _ none
 
-pub behind_keyword-none : (d : Doctype) (cs : List ℕ) → None ≡ after_word (codes "public") cs →
-    None ≡ after_word (codes "system") cs → ends_here d cs ≡ behind_keyword d cs
-behind_keyword-none d cs none h =
+pub after_keyword-none : (d : Doctype) (cs : List ℕ) → None ≡ after_word (codes "public") cs →
+    None ≡ after_word (codes "system") cs → ends_here d cs ≡ after_keyword d cs
+after_keyword-none d cs none h =
     none_by (begins_word (codes "system") cs) (drop 6 cs)
     (system_or d (skipped (with_quirks d)) (without_spaces (drop 6 cs))) (ends_here d cs) h
-    ∙ none_by (begins_word (codes "public") cs) (drop 6 cs) (behind_public d (without_spaces (drop 6 cs))) _ none
+    ∙ none_by (begins_word (codes "public") cs) (drop 6 cs) (after_public d (without_spaces (drop 6 cs))) _ none
 
 pub public_codes : chars (codes "public") ≡ codes "public"
 unfolding chars
@@ -168,7 +167,7 @@ abbrev without_name : List ℕ → DoctypeEnd
 without_name cs = skipped (with_quirks (named_doctype None)) cs
 
 abbrev with_name : List ℕ → List ℕ → DoctypeEnd
-with_name name rest = behind_keyword (named_doctype (Some name)) (without_spaces rest)
+with_name name rest = after_keyword (named_doctype (Some name)) (without_spaces rest)
 
 module _ (text slice cs rest : List ℕ) (e : cs ≡ without_spaces text) (f : slice ≡ front_while (is_of Unquoted) cs)
     (g : rest ≡ rest_while (is_of Unquoted) cs) where
@@ -178,7 +177,7 @@ module _ (text slice cs rest : List ℕ) (e : cs ≡ without_spaces text) (f : s
       let named = with_name (name_of (front_while (is_of Unquoted) cs)) (rest_while (is_of Unquoted) cs) in
       ap without_name (g ∙ all_left (is_of Unquoted) cs none)
       ∙ sym (ap (λ b. cond b (without_name cs) named) (eq-eqb (length (front_while (is_of Unquoted) cs)) 0 none))
-      ∙ ap behind_spaces e
+      ∙ ap after_spaces e
 
   pub doctype_at-named : (name : List ℕ) → (length slice ≡ 0 → ⊥) → name ≡ name_of slice →
       with_name name rest ≡ doctype_at text
@@ -187,4 +186,4 @@ module _ (text slice cs rest : List ℕ) (e : cs ≡ without_spaces text) (f : s
       let named = with_name (name_of (front_while (is_of Unquoted) cs)) (rest_while (is_of Unquoted) cs) in
       ap (λ m. with_name m rest) (n ∙ ap name_of f) ∙ ap (with_name (name_of (front_while (is_of Unquoted) cs))) g
       ∙ sym (ap (λ b. cond b (without_name cs) named) (eqb_apart (length (front_while (is_of Unquoted) cs)) 0 some))
-      ∙ ap behind_spaces e
+      ∙ ap after_spaces e

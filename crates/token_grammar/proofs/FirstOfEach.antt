@@ -1,6 +1,6 @@
 -- Of the attributes of a tag the first of each name stays.
-use Rattle.std.proofs.Common.{◌≡◌, ℕ, Bool, true, false, cond, ◌||◌, List, [], ◌∷◌, ◌++◌, refl, sym, ap, subst, ◌∙◌}
-use Rattle.std.proofs.Common.{append_assoc, append-nil, ◌⊎◌, inl, inr}
+use Rattle.std.proofs.Common.{◌≡◌, ◌||◌, [], ◌∷◌, ◌++◌, ◌∙◌, ◌⊎◌, Bool, List, ap, append-nil, append_assoc, cond, false}
+use Rattle.std.proofs.Common.{inl, inr, refl, subst, sym, true, ℕ}
 use Rattle.std.proofs.Math.Bool.{or-false}
 use Rattle.std.proofs.lemmas.Bool.{cond_both}
 use Rattle.std.proofs.lemmas.List.Folds.{list_any-append}
@@ -34,10 +34,10 @@ pub record IsBefore {T : Type 0} (xs : List T) (a : T) (front : List T) (x : T) 
 abbrev pub Stands : {T : Type 0} → List T → T → List T → T → List T → Type 0
 Stands xs a front x back = IsLast xs a front x back ⊎ IsBefore xs a front x back
 
-behind_one : {T : Type 0} (xs : List T) (a y : T) (front : List T) (x : T) (back : List T) → Stands xs a front x back →
+after_one : {T : Type 0} (xs : List T) (a y : T) (front : List T) (x : T) (back : List T) → Stands xs a front x back →
     Stands (y ∷ xs) a (y ∷ front) x back
-behind_one xs a y front x back (inl h) = inl (ap (λ l. y ∷ l) h.0, h.1)
-behind_one xs a y front x back (inr h) = inr (record { others = h.others; whole = ap (λ l. y ∷ l) h.whole })
+after_one xs a y front x back (inl h) = inl (ap (λ l. y ∷ l) h.0, h.1)
+after_one xs a y front x back (inr h) = inr (record { others = h.others; whole = ap (λ l. y ∷ l) h.whole })
 
 pub where_stands : {T : Type 0} (xs : List T) (a : T) (front : List T) (x : T) (back : List T) →
     xs ++ a ∷ [] ≡ front ++ x ∷ back → Stands xs a front x back
@@ -50,7 +50,7 @@ where_stands (y ∷ xs) a (f ∷ front) x back e =
     let same : y ≡ f = cc in
     let tails : xs ++ a ∷ [] ≡ front ++ x ∷ back = cc in
     subst (λ z. Stands (y ∷ xs) a (z ∷ front) x back) same
-    (behind_one xs a y front x back (where_stands xs a front x back tails))
+    (after_one xs a y front x back (where_stands xs a front x back tails))
 
 -- ---- names
 
@@ -61,13 +61,13 @@ has_name-push name xs a =
     ap (λ b. has_name name xs || b) (or-false (bytes_eq a.name.local name))
 
 -- where a name stands already, another attribute with it changes nothing
-pub told_already : (name own : List ℕ) (kept : List Attribute) (b : Bool) → bytes_eq own name ≡ b →
+pub emitted_already : (name own : List ℕ) (kept : List Attribute) (b : Bool) → bytes_eq own name ≡ b →
     has_name own kept ≡ true → has_name name kept ≡ (has_name name kept || b)
-told_already name own kept true e h =
+emitted_already name own kept true e h =
     let same : own ≡ name = (bytes_eq-Decides own name).0 e in
     let t : has_name name kept ≡ true = subst (λ l. has_name l kept ≡ true) same h in
     t ∙ ap (λ c. c || true) (sym t)
-told_already name own kept false e h = sym (or-false (has_name name kept))
+emitted_already name own kept false e h = sym (or-false (has_name name kept))
 
 later : (written others : List Attribute) (a x : Attribute) → IsFirstOfName x others written →
     IsFirstOfName x others (written ++ a ∷ [])
@@ -76,7 +76,7 @@ later written others a x h = record {
   back = h.back ++ a ∷ [];
   stands = ap (λ l. l ++ a ∷ []) h.stands ∙ append_assoc h.front (x ∷ h.back) (a ∷ []);
   none_earlier = h.none_earlier;
-  behind = h.behind;
+  trailing = h.trailing;
 }
 
 module _ (written kept : List Attribute) (a : Attribute) (h : AreFirstOfEach written kept) where
@@ -87,7 +87,7 @@ module _ (written kept : List Attribute) (a : Attribute) (h : AreFirstOfEach wri
     once = h.once;
     first = λ front back x is. later written front a x (h.first front back x is);
     none_lost = λ name.
-        told_already name a.name.local kept (bytes_eq a.name.local name) refl e ∙
+        emitted_already name a.name.local kept (bytes_eq a.name.local name) refl e ∙
         ap (λ b. b || bytes_eq a.name.local name) (h.none_lost name)
         ∙ sym (has_name-push name written a);
   }
@@ -106,7 +106,7 @@ module _ (written kept : List Attribute) (a : Attribute) (h : AreFirstOfEach wri
       back = [];
       stands = refl;
       none_earlier = sym (h.none_lost a.name.local) ∙ e;
-      behind = h.in_order;
+      trailing = h.in_order;
     }
 
     first_more : (front back : List Attribute) (x : Attribute) → Stands kept a front x back →

@@ -1,6 +1,6 @@
 -- The first of each name are one list.
-use Rattle.std.proofs.Common.{◌≡◌, ℕ, Bool, true, false, cond, ◌||◌, List, [], ◌∷◌, ◌++◌, reverse, refl, sym, ap, subst}
-use Rattle.std.proofs.Common.{◌∙◌, append_assoc, ◌⊎◌, inl, inr, ⊎_elim}
+use Rattle.std.proofs.Common.{◌≡◌, ◌||◌, [], ◌∷◌, ◌++◌, ◌∙◌, ◌⊎◌, ⊎_elim, Bool, List, ap, append_assoc, cond, false}
+use Rattle.std.proofs.Common.{inl, inr, refl, reverse, subst, sym, true, ℕ}
 use Rattle.std.proofs.Math.Bool.{or-false}
 use Rattle.std.proofs.lemmas.Bool.{both_ways, cond-false, cond-true, false≢true, or_cases, or_left, or_right}
 use Rattle.std.proofs.lemmas.List.{reverse-append, reverse-reverse}
@@ -10,7 +10,7 @@ use Rattle.std.specs.Str.{bytes_eq}
 use Rattle.html_lexemes.specs.declared.names.Attribute.{Attribute}
 use Rattle.token_grammar.specs.TagLaws.{AreFirstOfEach, IsFirstOfName, IsPartOf, none_is, stays, goes}
 use Rattle.token_grammar.specs.Tags.{first_of_each, has_name}
-use Rattle.token_grammar.proofs.FirstOfEach.{IsBefore, IsLast, first_of_each_read, has_name-push, told_already}
+use Rattle.token_grammar.proofs.FirstOfEach.{IsBefore, IsLast, emitted_already, first_of_each_read, has_name-push}
 use Rattle.token_grammar.proofs.FirstOfEach.{where_stands}
 
 -- ---- names
@@ -22,8 +22,8 @@ record IsNamedIn (name : List ℕ) (xs : List Attribute) : Type 0 where
   whole : xs ≡ front ++ x ∷ back
   same : x.name.local ≡ name
 
-behind_another : (name : List ℕ) (a : Attribute) (xs : List Attribute) → IsNamedIn name xs → IsNamedIn name (a ∷ xs)
-behind_another name a xs h =
+after_another : (name : List ℕ) (a : Attribute) (xs : List Attribute) → IsNamedIn name xs → IsNamedIn name (a ∷ xs)
+after_another name a xs h =
     record { front = a ∷ h.front; x = h.x; back = h.back; whole = ap (λ l. a ∷ l) h.whole; same = h.same }
 
 at_front : (name : List ℕ) (a : Attribute) (xs : List Attribute) → bytes_eq a.name.local name ≡ true →
@@ -34,7 +34,7 @@ at_front name a xs e =
 named_in : (name : List ℕ) (xs : List Attribute) → has_name name xs ≡ true → IsNamedIn name xs
 named_in name [] e = absurd (false≢true e)
 named_in name (a ∷ xs) e =
-    ⊎_elim (λ t. at_front name a xs t) (λ t. behind_another name a xs (named_in name xs t))
+    ⊎_elim (λ t. at_front name a xs t) (λ t. after_another name a xs (named_in name xs t))
     (or_cases (bytes_eq a.name.local name) (has_name name xs) e)
 
 stands_named : (name : List ℕ) (front : List Attribute) (x : Attribute) (back : List Attribute) → x.name.local ≡ name →
@@ -82,13 +82,13 @@ record HasLast (xs : List Attribute) : Type 0 where
   last : Attribute
   whole : xs ≡ front ++ last ∷ []
 
-last_behind : (x : Attribute) (xs : List Attribute) → (xs ≡ []) ⊎ HasLast xs → HasLast (x ∷ xs)
-last_behind x xs (inl e) = record { front = []; last = x; whole = ap (λ l. x ∷ l) e }
-last_behind x xs (inr h) = record { front = x ∷ h.front; last = h.last; whole = ap (λ l. x ∷ l) h.whole }
+last_after : (x : Attribute) (xs : List Attribute) → (xs ≡ []) ⊎ HasLast xs → HasLast (x ∷ xs)
+last_after x xs (inl e) = record { front = []; last = x; whole = ap (λ l. x ∷ l) e }
+last_after x xs (inr h) = record { front = x ∷ h.front; last = h.last; whole = ap (λ l. x ∷ l) h.whole }
 
 last_of : (xs : List Attribute) → (xs ≡ []) ⊎ HasLast xs
 last_of [] = inl refl
-last_of (x ∷ xs) = inr (last_behind x xs (last_of xs))
+last_of (x ∷ xs) = inr (last_after x xs (last_of xs))
 
 abbrev AreFirsts : List Attribute → List Attribute → Type 0
 AreFirsts written kept = (front back : List Attribute) (x : Attribute) → kept ≡ front ++ x ∷ back →
@@ -101,7 +101,7 @@ in_their_order written kept first = at (last_of kept) where
   at (inr h) =
       let p = first h.front [] h.last h.whole in
       subst (λ (l : List Attribute). IsPartOf l written) (sym h.whole)
-      (subst (IsPartOf (h.front ++ h.last ∷ [])) (sym p.stands) (part_up_to h.front p.front h.last p.back p.behind))
+      (subst (IsPartOf (h.front ++ h.last ∷ [])) (sym p.stands) (part_up_to h.front p.front h.last p.back p.trailing))
 
 -- ---- a list with one more
 
@@ -111,7 +111,7 @@ earlier w a x others p other = at (where_stands w a p.front x p.back p.stands) w
   at : IsLast w a p.front x p.back ⊎ IsBefore w a p.front x p.back → IsFirstOfName x others w
   at (inl s) = absurd (other s.0 s.1)
   at (inr s) =
-      record { front = p.front; back = s.others; stands = s.whole; none_earlier = p.none_earlier; behind = p.behind }
+      record { front = p.front; back = s.others; stands = s.whole; none_earlier = p.none_earlier; trailing = p.trailing }
 
 record EndsWith (w kept : List Attribute) (a : Attribute) : Type 0 where
   front : List Attribute
@@ -132,7 +132,7 @@ module _ (w kept : List Attribute) (a : Attribute) (h : AreFirstOfEach (w ++ a �
     names : (name : List ℕ) → has_name name kept ≡ has_name name w
     names name =
         h.none_lost name ∙ has_name-push name w a ∙
-        sym (told_already name a.name.local w (bytes_eq a.name.local name) refl before)
+        sym (emitted_already name a.name.local w (bytes_eq a.name.local name) refl before)
 
   module _ (new : has_name a.name.local w ≡ false) where
     -- it stands last
@@ -141,7 +141,7 @@ module _ (w kept : List Attribute) (a : Attribute) (h : AreFirstOfEach (w ++ a �
     no_more front (z ∷ back) e =
         let p = h.first (front ++ a ∷ []) back z (e ∙ sym (append_assoc front (a ∷ []) (z ∷ back))) in
         let there : has_name a.name.local p.front ≡ true =
-        part_named a.name.local (front ++ a ∷ []) p.front p.behind
+        part_named a.name.local (front ++ a ∷ []) p.front p.trailing
         (stands_named a.name.local front a [] refl) in
         absurd (at p there (where_stands w a p.front z p.back p.stands)) where
           at : (p : IsFirstOfName z (front ++ a ∷ []) (w ++ a ∷ [])) → has_name a.name.local p.front ≡ true →
@@ -196,7 +196,7 @@ module _ (w kept : List Attribute) (a : Attribute) (h : AreFirstOfEach (w ++ a �
               record {
                 front = n.front;
                 whole = whole;
-                are = others_are n.front whole (subst (IsPartOf n.front) (sym s.0) p.behind);
+                are = others_are n.front whole (subst (IsPartOf n.front) (sym s.0) p.trailing);
               }
           at n p (inr s) =
               absurd (both_ways (has_name a.name.local w) new

@@ -1,6 +1,6 @@
 -- What is read in a kind of text is of it.
-use Rattle.std.proofs.Common.{subst, option_map, not, ◌≡◌, ℕ, Bool, true, false, cond, ◌==◌, ◌&&◌, List, [], ◌∷◌, ◌++◌}
-use Rattle.std.proofs.Common.{drop, map, codes, Option, Some, None}
+use Rattle.std.proofs.Common.{◌≡◌, ◌==◌, ◌&&◌, [], ◌∷◌, ◌++◌, Bool, List, None, Option, Some, codes, cond, drop, false}
+use Rattle.std.proofs.Common.{map, not, option_map, subst, true, ℕ}
 use Rattle.lex_base.specs.References.{References}
 use Rattle.html_lexemes.specs.declared.states.RawKind.{RawKind}
 use Rattle.html_lexemes.specs.declared.token.TagKind.{TagKind}
@@ -11,10 +11,10 @@ use Rattle.token_grammar.specs.Doctypes.{doctype_at}
 use Rattle.token_grammar.specs.Items.{Item, characters, comment, doctype, end_of_file, error, null_character, tag}
 use Rattle.token_grammar.specs.Kinds.{AreWelcome, AreWithin, HasMarkup, IsHearing, IsOf, IsOfTag, IsReadyFor, IsWithin}
 use Rattle.token_grammar.specs.Kinds.{LexemeOf}
-use Rattle.token_grammar.specs.Lexemes.{Lexeme, behind_slash, cdata_lexeme, comment_lexeme, declaration, doctype_lexeme}
-use Rattle.token_grammar.specs.Lexemes.{ends_raw_text, error_unless, has_end_tags, has_references, in_kind, kind_behind}
-use Rattle.token_grammar.specs.Lexemes.{lexeme, lexeme_in, markup, one_character, ordinary_item, ordinary_lexeme}
-use Rattle.token_grammar.specs.Lexemes.{raw_lexeme, reference_lexeme, tag_lexeme, told}
+use Rattle.token_grammar.specs.Lexemes.{Lexeme, after_slash, cdata_lexeme, comment_lexeme, declaration, doctype_lexeme}
+use Rattle.token_grammar.specs.Lexemes.{emitted, ends_raw_text, error_unless, has_end_tags, has_references, in_kind}
+use Rattle.token_grammar.specs.Lexemes.{kind_after, lexeme, lexeme_in, markup, one_character, ordinary_item}
+use Rattle.token_grammar.specs.Lexemes.{ordinary_lexeme, raw_lexeme, reference_lexeme, tag_lexeme}
 use Rattle.token_grammar.specs.Meaning.{Meaning}
 use Rattle.token_grammar.specs.References.{Found, reference}
 use Rattle.token_grammar.specs.Slices.{after, begins, begins_word, cut, cut_or_all, front_while, rest_while}
@@ -55,7 +55,7 @@ module _ (kind : TextKind) where
     in_reference cs None = (characters_within (38 ∷ []), stays)
     in_reference cs (Some found) = (error_within found.closed found.characters, stays)
 
-    in_characters : (cs rest : List ℕ) → LexemeOf kind (told (characters cs ∷ []) mode rest)
+    in_characters : (cs rest : List ℕ) → LexemeOf kind (emitted (characters cs ∷ []) mode rest)
     in_characters cs rest = (characters_within cs, stays)
 
     -- ---- markup
@@ -77,16 +77,16 @@ module _ (kind : TextKind) where
       any_tag StartTag = marked
       any_tag EndTag = tt
 
-      pub any_section : (cs rest : List ℕ) → LexemeOf kind (told (map ordinary_item cs) mode rest)
+      pub any_section : (cs rest : List ℕ) → LexemeOf kind (emitted (map ordinary_item cs) mode rest)
       any_section cs rest = (items_within cs, stays)
 
-      pub in_end_tag : (table : References) (cs : List ℕ) → LexemeOf kind (behind_slash table mode cs)
+      pub in_end_tag : (table : References) (cs : List ℕ) → LexemeOf kind (after_slash table mode cs)
       in_end_tag table [] = in_characters (60 ∷ []) (codes "/")
       in_end_tag table (c ∷ cs) =
           both (is_letter c) (tag_lexeme (tag_at table EndTag (c ∷ cs)))
-          (cond (c == 62) (told (error ∷ []) mode cs) (comment_lexeme mode (bogus_comment_slice (c ∷ cs))))
+          (cond (c == 62) (emitted (error ∷ []) mode cs) (comment_lexeme mode (bogus_comment_slice (c ∷ cs))))
           (in_tag table EndTag (c ∷ cs) tt)
-          (both (c == 62) (told (error ∷ []) mode cs) (comment_lexeme mode (bogus_comment_slice (c ∷ cs)))
+          (both (c == 62) (emitted (error ∷ []) mode cs) (comment_lexeme mode (bogus_comment_slice (c ∷ cs)))
           (((tt, tt), tt), stays) (((tt, marked), tt), stays))
 
       pub in_declaration : (foreign : Bool) (cs : List ℕ) → LexemeOf kind (declaration foreign mode cs)
@@ -109,10 +109,10 @@ module _ (kind : TextKind) where
           let bogus : Lexeme = comment_lexeme mode (bogus_comment_slice (c ∷ cs)) in
           let text : Lexeme = one_character mode 60 (c ∷ cs) in
           both (is_letter c) (tag_lexeme (tag_at table StartTag (c ∷ cs)))
-          (cond (c == 47) (behind_slash table mode cs)
+          (cond (c == 47) (after_slash table mode cs)
           (cond (c == 33) (declaration foreign mode cs) (cond (c == 63) bogus text)))
           (in_tag table StartTag (c ∷ cs) marked)
-          (both (c == 47) (behind_slash table mode cs)
+          (both (c == 47) (after_slash table mode cs)
           (cond (c == 33) (declaration foreign mode cs) (cond (c == 63) bogus text)) (in_end_tag table cs)
           (both (c == 33) (declaration foreign mode cs) (cond (c == 63) bogus text) (in_declaration foreign cs)
           (both (c == 63) bogus text (((tt, marked), tt), stays) (in_characters (60 ∷ []) (c ∷ cs)))))
@@ -120,7 +120,7 @@ module _ (kind : TextKind) where
       pub in_ordinary : (table : References) (foreign : Bool) (c : ℕ) (cs : List ℕ) →
           LexemeOf kind (ordinary_lexeme table foreign mode c cs)
       in_ordinary table foreign c cs =
-          let text : Lexeme = told (ordinary_item c ∷ []) mode cs in
+          let text : Lexeme = emitted (ordinary_item c ∷ []) mode cs in
           both (c == 60) (markup table foreign mode cs)
           (cond (c == 38) (reference_lexeme mode cs (reference table cs)) text) (in_markup table foreign cs)
           (both (c == 38) (reference_lexeme mode cs (reference table cs)) text (in_reference cs (reference table cs))
@@ -130,7 +130,7 @@ module _ (kind : TextKind) where
 
     in_raw : (table : References) (raw : RawKind) (c : ℕ) (cs : List ℕ) → LexemeOf kind (raw_lexeme table raw mode c cs)
     in_raw table raw c cs =
-        let text : Lexeme = one_character (in_kind mode (kind_behind raw (c ∷ cs))) (shown c) cs in
+        let text : Lexeme = one_character (in_kind mode (kind_after raw (c ∷ cs))) (shown c) cs in
         both (c == 60 && has_end_tags raw && ends_raw_text mode.last_start_tag cs)
         (tag_lexeme (tag_at table EndTag (drop 1 cs)))
         (cond (c == 38 && has_references raw) (reference_lexeme mode cs (reference table cs)) text)

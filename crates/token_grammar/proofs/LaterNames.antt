@@ -1,6 +1,6 @@
 -- The set of the names after a tag's first attributes.
-use Rattle.std.proofs.Common.{◌≡◌, ℕ, ◌≤◌, ◌<◌, Bool, true, false, cond, ◌||◌, ◌&&◌, List, [], ◌∷◌, ◌++◌, length, take}
-use Rattle.std.proofs.Common.{drop, refl, sym, ap, ◌∙◌, arith, length-append, ⊎_elim}
+use Rattle.std.proofs.Common.{◌≡◌, ◌≤◌, ◌<◌, ◌||◌, ◌&&◌, [], ◌∷◌, ◌++◌, ◌∙◌, ⊎_elim, Bool, List, ap, arith, cond, drop}
+use Rattle.std.proofs.Common.{false, length, length-append, refl, sym, take, true, ℕ}
 use Rattle.std.proofs.Math.Bool.{or-false}
 use Rattle.std.proofs.lemmas.Bool.{cases_Bool, leb-true, leb-false, true_from_ne_false}
 use Rattle.std.proofs.lemmas.List.{drop-append-le, drop_all, take-append-drop}
@@ -41,10 +41,10 @@ first-or-later n name xs =
 pub later-more : (n : ℕ) (name : List ℕ) (xs : List Attribute) (a : Attribute)
     → is_named name (drop n (xs ++ a ∷ []))
     ≡ (is_named name (drop n xs) || (nat_le n (length xs) && bytes_eq a.name.local name))
-later-more n name xs a = ⊎_elim behind before (cases_Bool (nat_le n (length xs))) where
-  behind : nat_le n (length xs) ≡ true → is_named name (drop n (xs ++ a ∷ []))
+later-more n name xs a = ⊎_elim trailing before (cases_Bool (nat_le n (length xs))) where
+  trailing : nat_le n (length xs) ≡ true → is_named name (drop n (xs ++ a ∷ []))
       ≡ (is_named name (drop n xs) || (nat_le n (length xs) && bytes_eq a.name.local name))
-  behind e =
+  trailing e =
       rw e
       (ap (is_named name) (drop-append-le n xs (a ∷ []) (leb-true n (length xs) e))
       ∙ list_any-append (λ (b : Attribute). bytes_eq b.name.local name) (drop n xs) (a ∷ [])

@@ -1,6 +1,6 @@
 -- What the reader of lexemes asks of marks and words.
-use Rattle.std.proofs.Common.{◌≡◌, ℕ, Bool, true, false, ◌&&◌, ◌==◌, List, [], ◌∷◌, length, drop, codes, Option, Some}
-use Rattle.std.proofs.Common.{None, Result, Ok, Err, IfOk, refl, sym, ap, ap₂, ◌∙◌}
+use Rattle.std.proofs.Common.{◌≡◌, ◌&&◌, ◌==◌, [], ◌∷◌, ◌∙◌, Bool, Err, IfOk, List, None, Ok, Option, Result, Some, ap}
+use Rattle.std.proofs.Common.{ap₂, codes, drop, false, length, refl, sym, true, ℕ}
 use Rattle.std.specs.Prelude.{is_some, option_map, if◌then◌else◌}
 use Rattle.std.specs.Str.{chars}
 use Rattle.html_lexemes.specs.declared.states.RawKind.TheVariants.{ScriptData, ScriptDataEscaped}
@@ -8,9 +8,9 @@ use Rattle.html_lexemes.specs.declared.states.ScriptEscapeKind.{ScriptEscapeKind
 use Rattle.html_lexemes.specs.declared.states.ScriptEscapeKind.TheVariants.{Escaped, DoubleEscaped}
 use Rattle.token_grammar.specs.Comments.{bogus_comment_slice, comment_slice}
 use Rattle.token_grammar.specs.Doctypes.{doctype_at}
-use Rattle.token_grammar.specs.Lexemes.{begins_tag, cdata_lexeme, comment_lexeme, declaration, doctype_lexeme}
-use Rattle.token_grammar.specs.Lexemes.{ends_raw_text, has_end_tags, has_references, kind_behind, named_end_tag}
-use Rattle.token_grammar.specs.Lexemes.{raw_lexeme, reference_lexeme, tag_lexeme, told}
+use Rattle.token_grammar.specs.Lexemes.{begins_tag, cdata_lexeme, comment_lexeme, declaration, doctype_lexeme, emitted}
+use Rattle.token_grammar.specs.Lexemes.{ends_raw_text, has_end_tags, has_references, kind_after, named_end_tag}
+use Rattle.token_grammar.specs.Lexemes.{raw_lexeme, reference_lexeme, tag_lexeme}
 use Rattle.token_grammar.specs.Slices.{after, after_word, begins, begins_word, cut, cut_or_all, front_while, rest_while}
 use Rattle.token_grammar.specs.Tags.{tag_at}
 use Rattle.token_grammar.specs.References.{reference}
@@ -78,26 +78,26 @@ pub chosen_false : {X : Type 0} (b : Bool) (x y : X) → b ≡ false → y ≡ (
 chosen_false b x y e = ap (λ c. if c then x else y) (sym e)
 
 -- the kind of the text after a character of script data
-pub opened : (cs : List ℕ) → begins (codes "<!--") cs ≡ true → ScriptDataEscaped Escaped ≡ kind_behind ScriptData cs
+pub opened : (cs : List ℕ) → begins (codes "<!--") cs ≡ true → ScriptDataEscaped Escaped ≡ kind_after ScriptData cs
 opened cs e = chosen_true (begins (codes "<!--") cs) (ScriptDataEscaped Escaped) ScriptData e
 
-pub not_opened : (cs : List ℕ) → begins (codes "<!--") cs ≡ false → ScriptData ≡ kind_behind ScriptData cs
+pub not_opened : (cs : List ℕ) → begins (codes "<!--") cs ≡ false → ScriptData ≡ kind_after ScriptData cs
 not_opened cs e = chosen_false (begins (codes "<!--") cs) (ScriptDataEscaped Escaped) ScriptData e
 
 pub closed : (escape : ScriptEscapeKind) (cs : List ℕ) → begins (codes "-->") cs ≡ true →
-    ScriptData ≡ kind_behind (ScriptDataEscaped escape) cs
+    ScriptData ≡ kind_after (ScriptDataEscaped escape) cs
 closed Escaped cs e = chosen_true (begins (codes "-->") cs) ScriptData _ e
 closed DoubleEscaped cs e = chosen_true (begins (codes "-->") cs) ScriptData _ e
 
 pub doubled : (cs : List ℕ) (b : Bool) → begins (codes "-->") cs ≡ false → begins_tag (codes "<script") cs ≡ b →
     (if b then ScriptDataEscaped DoubleEscaped else ScriptDataEscaped Escaped)
-    ≡ kind_behind (ScriptDataEscaped Escaped) cs
+    ≡ kind_after (ScriptDataEscaped Escaped) cs
 doubled cs b e f = ap (λ t. if t then ScriptDataEscaped DoubleEscaped
     else ScriptDataEscaped Escaped) (sym f) ∙ chosen_false (begins (codes "-->") cs) ScriptData _ e
 
 pub undoubled : (cs : List ℕ) (b : Bool) → begins (codes "-->") cs ≡ false → begins_tag (codes "</script") cs ≡ b →
     (if b then ScriptDataEscaped Escaped else ScriptDataEscaped DoubleEscaped)
-    ≡ kind_behind (ScriptDataEscaped DoubleEscaped) cs
+    ≡ kind_after (ScriptDataEscaped DoubleEscaped) cs
 undoubled cs b e f = ap (λ t. if t then ScriptDataEscaped Escaped
     else ScriptDataEscaped DoubleEscaped) (sym f) ∙ chosen_false (begins (codes "-->") cs) ScriptData _ e
 
@@ -225,7 +225,7 @@ raw_reference table kind mode c cs e h =
 
 pub raw_character : (table : References) (kind : RawKind) (mode : Mode) (c : ℕ) (cs : List ℕ) →
     None ≡ end_tag_found kind mode.last_start_tag c cs → (c == 38 && has_references kind) ≡ false →
-    told (characters (shown c ∷ []) ∷ []) (record mode { text = Raw (kind_behind kind (c ∷ cs)) }) cs
+    emitted (characters (shown c ∷ []) ∷ []) (record mode { text = Raw (kind_after kind (c ∷ cs)) }) cs
     ≡ raw_lexeme table kind mode c cs
 raw_character table kind mode c cs e h =
     chosen_false (c == 38 && has_references kind) _ _ h ∙

@@ -1,6 +1,6 @@
 -- What is found at the front of a text is the longest name of a table.
-use Rattle.std.proofs.Common.{◌≡◌, ℕ, ◌+◌, IsTrue, List, [], ◌∷◌, ◌++◌, length, Option, Some, None, MatchOption}
-use Rattle.std.proofs.Common.{is_some, option_map, refl, sym, ap, subst, ◌∙◌, arith, append_assoc, append-nil}
+use Rattle.std.proofs.Common.{◌≡◌, ◌+◌, [], ◌∷◌, ◌++◌, ◌∙◌, IsTrue, List, MatchOption, None, Option, Some, ap}
+use Rattle.std.proofs.Common.{append-nil, append_assoc, arith, is_some, length, option_map, refl, subst, sym, ℕ}
 use Rattle.std.specs.Option.{option_or}
 use Rattle.std.specs.FinMap as finite
 use Rattle.lex_base.specs.References.{References}
@@ -96,9 +96,9 @@ Named table cs r =
     MatchOption r (BeginsWithNoName table cs) (λ f. (name : List ℕ) × IsLongestName table cs name f.characters
     × (cs ≡ name ++ f.rest))
 
-told : (table : References) (cs : List ℕ) (r : Option Found) → Answers table [] cs r → Named table cs r
-told table cs None h = λ k more is. h k more is
-told table cs (Some f) h = (
+emitted : (table : References) (cs : List ℕ) (r : Option Found) → Answers table [] cs r → Named table cs r
+emitted table cs None h = λ k more is. h k more is
+emitted table cs (Some f) h = (
   h.k,
   record {
     rest = f.rest;
@@ -110,4 +110,4 @@ told table cs (Some f) h = (
 )
 
 pub named_longest : (table : References) (cs : List ℕ) → Named table cs (named table cs)
-named_longest table cs = told table cs (named table cs) (answers table [] cs)
+named_longest table cs = emitted table cs (named table cs) (answers table [] cs)

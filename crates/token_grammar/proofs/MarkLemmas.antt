@@ -1,15 +1,15 @@
 -- Slices before a mark, on texts and on their code points.
-use Rattle.std.proofs.Common.{◌≡◌, ◌≢◌, ℕ, ◌-◌, ◌<◌, Bool, true, false, cond, List, [], ◌∷◌, ◌++◌, length, take, drop}
-use Rattle.std.proofs.Common.{reverse, Option, Some, None, MatchOption, option_map, unwrap_or, eqb, refl, sym, ap}
-use Rattle.std.proofs.Common.{subst, ◌∙◌, arith, append_assoc, append-nil, length-append, IsUtf8, encode_utf8}
-use Rattle.std.proofs.Common.{encode_utf8_all, codes}
+use Rattle.std.proofs.Common.{◌≡◌, ◌≢◌, ◌-◌, ◌<◌, [], ◌∷◌, ◌++◌, ◌∙◌, Bool, IsUtf8, List, MatchOption, None, Option}
+use Rattle.std.proofs.Common.{Some, ap, append-nil, append_assoc, arith, codes, cond, drop, encode_utf8}
+use Rattle.std.proofs.Common.{encode_utf8_all, eqb, false, length, length-append, option_map, refl, reverse, subst, sym}
+use Rattle.std.proofs.Common.{take, true, unwrap_or, ℕ}
 use denote.Ref.{Bor}
 use Rattle.std.proofs.lemmas.Bool.{and_parts, eq-eqb, eqb-true}
 use Rattle.std.proofs.lemmas.List.{nil_from_length, reverse-append, reverse-reverse, take-append-le, take_all}
 use Rattle.std.proofs.lemmas.Option.{same_Some}
+use Rattle.std.proofs.lemmas.Str.{IsCharBoundary-at_seam, IsUtf8-append, IsUtf8-encode, IsUtf8-nil, IsUtf8-take}
 use Rattle.std.proofs.lemmas.Str.{chars-append, chars-nil, chars_past_char, cons_from_encodes, encodes-append}
-use Rattle.std.proofs.lemmas.Str.{encodes-chars, length-encode, len_utf8_bounds, IsUtf8-append, IsUtf8-nil}
-use Rattle.std.proofs.lemmas.Str.{IsUtf8-encode, IsUtf8-take, IsCharBoundary-at_seam}
+use Rattle.std.proofs.lemmas.Str.{encodes-chars, len_utf8_bounds, length-encode}
 use Rattle.std.specs.Char.{IsScalar}
 use Rattle.std.specs.Option.{option_or}
 use Rattle.std.proofs.Math.Utf8.{scalar}

@@ -1,12 +1,12 @@
 -- The longest name of a table that a text begins with.
-use Rattle.std.proofs.Common.{◌≡◌, ℕ, ◌<◌, ◌≤◌, Bool, true, false, IsTrue, List, [], ◌∷◌, ◌++◌, length, take, drop, eqb}
-use Rattle.std.proofs.Common.{Option, Some, None, MatchBool, is_some, option_map, IsUtf8, chars, refl, sym, ap, subst}
-use Rattle.std.proofs.Common.{◌∙◌, arith, append_assoc, append-nil, length-drop}
+use Rattle.std.proofs.Common.{◌≡◌, ◌<◌, ◌≤◌, [], ◌∷◌, ◌++◌, ◌∙◌, Bool, IsTrue, IsUtf8, List, MatchBool, None, Option}
+use Rattle.std.proofs.Common.{Some, ap, append-nil, append_assoc, arith, chars, drop, eqb, false, is_some, length}
+use Rattle.std.proofs.Common.{length-drop, option_map, refl, subst, sym, take, true, ℕ}
 use Rattle.std.proofs.lemmas.Bool.{or_left, or_right, or_from, eq-eqb}
 use Rattle.std.proofs.lemmas.List.{take-append-drop}
 use Rattle.std.proofs.lemmas.Option.{none-some, same_Some}
-use Rattle.std.proofs.lemmas.Str.{chars-append, chars_past_char, chars_from_encodes, IsUtf8-take, IsUtf8-drop}
-use Rattle.std.proofs.lemmas.Str.{IsCharBoundary-before_ascii}
+use Rattle.std.proofs.lemmas.Str.{IsCharBoundary-before_ascii, IsUtf8-drop, IsUtf8-take, chars-append}
+use Rattle.std.proofs.lemmas.Str.{chars_from_encodes, chars_past_char}
 use Rattle.std.proofs.lemmas.Str.Pattern.{drop_at_char}
 use Rattle.std.specs.List.{list_any}
 use Rattle.std.specs.Option.{option_or}

@@ -1,10 +1,10 @@
 -- Numbers after a number sign.
-use Rattle.std.proofs.Common.{◌≡◌, ◌⊎◌, ℕ, ◌+◌, ◌*◌, ◌<◌, ◌≤◌, min, Bool, true, false, ◌&&◌, ◌||◌, cond, IsTrue, List}
-use Rattle.std.proofs.Common.{[], ◌∷◌, ◌++◌, length, drop, eqb, fold, Option, Some, None, MatchOption, is_some}
-use Rattle.std.proofs.Common.{unwrap_or, option_map, Bor, IsUtf8, inl, inr, refl, sym, ap, subst, ◌∙◌, arith}
-use Rattle.std.proofs.Common.{mul-le-mul_left, encode_utf8, encode_utf8_all}
-use Rattle.std.proofs.lemmas.Bool.{cases_lt, cond-true, or_right, lt-ltb, and_parts, and_from, cond-false, cond_both}
-use Rattle.std.proofs.lemmas.Bool.{eq-eqb, eqb-true, eqb-false, ne_eqb, ltb-true}
+use Rattle.std.proofs.Common.{◌≡◌, ◌⊎◌, ◌+◌, ◌*◌, ◌<◌, ◌≤◌, ◌&&◌, ◌||◌, [], ◌∷◌, ◌++◌, ◌∙◌, Bool, Bor, IsTrue, IsUtf8}
+use Rattle.std.proofs.Common.{List, MatchOption, None, Option, Some, ap, arith, cond, drop, encode_utf8}
+use Rattle.std.proofs.Common.{encode_utf8_all, eqb, false, fold, inl, inr, is_some, length, min, mul-le-mul_left}
+use Rattle.std.proofs.Common.{option_map, refl, subst, sym, true, unwrap_or, ℕ}
+use Rattle.std.proofs.lemmas.Bool.{and_from, and_parts, cases_lt, cond-false, cond-true, cond_both, eq-eqb, eqb-false}
+use Rattle.std.proofs.lemmas.Bool.{eqb-true, lt-ltb, ltb-true, ne_eqb, or_right}
 use Rattle.std.proofs.lemmas.List.{nil_from_length}
 use Rattle.std.proofs.lemmas.Option.{none-some, same_Some}
 use Rattle.std.proofs.lemmas.Str.{chars_past_char, encodes-chars, IsUtf8-past_char}
@@ -13,7 +13,7 @@ use Rattle.std.specs.List.{list_all}
 use Rattle.std.specs.Option.{option_or, SomeIff}
 use Rattle.std.specs.Str.{chars}
 use Rattle.token_grammar.specs.Characters.{is_digit}
-use Rattle.token_grammar.specs.References.{Found, behind_number_sign, number_of, numbered, numeric}
+use Rattle.token_grammar.specs.References.{Found, after_number_sign, number_of, numbered, numeric}
 use Rattle.token_grammar.specs.Slices.{after, begins, front_while, rest_while}
 use Rattle.token_grammar.proofs.SliceLemmas.{no_bytes}
 
@@ -116,15 +116,15 @@ found_with characters closed rest = record { characters = characters; closed = c
 
 -- the semicolon that ends a number, and what follows
 abbrev Ended : Bool → List ℕ → List ℕ → Option (Bor (List ℕ)) → Bor (List ℕ) → Type 0
-Ended b behind cs end rest = (is_some end ≡ b) × (chars (unwrap_or end rest).now ≡ cond b behind cs)
+Ended b trailing cs end rest = (is_some end ≡ b) × (chars (unwrap_or end rest).now ≡ cond b trailing cs)
 
-ended_by : (b : Bool) (behind cs : List ℕ) (end : Option (Bor (List ℕ))) (rest : Bor (List ℕ)) →
-    option_map {T = Bor (List ℕ)} {U = List ℕ} (λ r. chars r.now) end ≡ cond b (Some behind) None → chars rest.now ≡ cs
-    → Ended b behind cs end rest
-ended_by true behind cs None rest e is = absurd (none-some behind e)
-ended_by true behind cs (Some x) rest e is = (refl, same_Some (chars x.now) behind e)
-ended_by false behind cs None rest e is = (refl, is)
-ended_by false behind cs (Some x) rest e is = absurd (none-some (chars x.now) (sym e))
+ended_by : (b : Bool) (trailing cs : List ℕ) (end : Option (Bor (List ℕ))) (rest : Bor (List ℕ)) →
+    option_map {T = Bor (List ℕ)} {U = List ℕ} (λ r. chars r.now) end ≡ cond b (Some trailing) None → chars rest.now ≡ cs
+    → Ended b trailing cs end rest
+ended_by true trailing cs None rest e is = absurd (none-some trailing e)
+ended_by true trailing cs (Some x) rest e is = (refl, same_Some (chars x.now) trailing e)
+ended_by false trailing cs None rest e is = (refl, is)
+ended_by false trailing cs (Some x) rest e is = absurd (none-some (chars x.now) (sym e))
 
 found_same : {a b : List ℕ} {x y : Bool} {k l : List ℕ} → a ≡ b → x ≡ y → k ≡ l →
     Some (found_with a x k) ≡ Some (found_with b y l)
@@ -153,13 +153,13 @@ module _ (base : ℕ) (p : ℕ → Bool) (text digits : List ℕ) (same : p ≡ 
       → value ≡ chars pushed → pushed ≡ encode_utf8 c → chars (encode_utf8 c) ≡ c ∷ [] → c ≡ numbered n →
       numbered n ≡ numbered (number_of base (chars digits))
       → Some (record { characters = value; closed = closed; rest = chars left.now }) ≡ numeric base (chars text)
-  some_digits b closed rest left end value pushed c n u e fails behind ends is_closed is_left is_value is_pushed one
+  some_digits b closed rest left end value pushed c n u e fails trailing ends is_closed is_left is_value is_pushed one
       numbers same_number =
       let some : length (front_while (is_digit base) (chars text)) ≡ 0 → ⊥ =
       λ none. eqb-false (length digits) 0 (sym e ∙ fails)
       (ap length (no_characters digits u (digits_are ∙ nil_from_length _ none))) in
       let rest_is : chars rest.now ≡ rest_while (is_digit base) (chars text) =
-      subst (λ (q : ℕ → Bool). chars rest.now ≡ rest_while q (chars text)) same behind in
+      subst (λ (q : ℕ → Bool). chars rest.now ≡ rest_while q (chars text)) same trailing in
       let cs : List ℕ = rest_while (is_digit base) (chars text) in
       let ended : Ended (begins (59 ∷ []) cs) (drop 1 cs) cs end rest =
       ended_by (begins (59 ∷ []) cs) (drop 1 cs) cs end rest
@@ -205,25 +205,25 @@ either_left false false cs None None e f = refl
 either_left false false cs None (Some x) e f = absurd (none-some (chars x.now) (sym f))
 
 -- the text without its x, if it begins with one
-abbrev pub BehindX : List ℕ → Option (Bor (List ℕ)) → Type 0
-BehindX cs r =
-    MatchOption r (numeric 10 cs ≡ behind_number_sign cs) (λ x. numeric 16 (chars x.now) ≡ behind_number_sign cs)
+abbrev pub AfterX : List ℕ → Option (Bor (List ℕ)) → Type 0
+AfterX cs r =
+    MatchOption r (numeric 10 cs ≡ after_number_sign cs) (λ x. numeric 16 (chars x.now) ≡ after_number_sign cs)
 
-behind_x_by : (b : Bool) (cs : List ℕ) (all : List ℕ) (whole : Option Found) (r : Option (Bor (List ℕ))) →
+after_x_by : (b : Bool) (cs : List ℕ) (all : List ℕ) (whole : Option Found) (r : Option (Bor (List ℕ))) →
     whole ≡ cond b (numeric 16 cs) (numeric 10 all) → LeftBy b cs r
     → MatchOption r (numeric 10 all ≡ whole) (λ x. numeric 16 (chars x.now) ≡ whole)
-behind_x_by b cs all whole None e h = sym (e ∙ cond-false b _ _ h)
-behind_x_by b cs all whole (Some x) e h = ap (numeric 16) h.1 ∙ sym (e ∙ cond-true b _ _ h.0)
+after_x_by b cs all whole None e h = sym (e ∙ cond-false b _ _ h)
+after_x_by b cs all whole (Some x) e h = ap (numeric 16) h.1 ∙ sym (e ∙ cond-true b _ _ h.0)
 
 x_of : (cs : List ℕ) (r s : Option (Bor (List ℕ))) → chars_of r ≡ after (120 ∷ []) cs →
-    chars_of s ≡ after (88 ∷ []) cs → BehindX cs (option_or r s)
-x_of [] r s e f = behind_x_by false [] [] (numeric 10 []) (option_or r s) refl (either_left false false [] r s e f)
+    chars_of s ≡ after (88 ∷ []) cs → AfterX cs (option_or r s)
+x_of [] r s e f = after_x_by false [] [] (numeric 10 []) (option_or r s) refl (either_left false false [] r s e f)
 x_of (c ∷ cs) r s e f =
-    behind_x_by (eqb c 120 || eqb c 88) cs (c ∷ cs) (behind_number_sign (c ∷ cs)) (option_or r s) refl
+    after_x_by (eqb c 120 || eqb c 88) cs (c ∷ cs) (after_number_sign (c ∷ cs)) (option_or r s) refl
     (either_left (eqb c 120) (eqb c 88) cs r s (e ∙ after_one 120 c cs) (f ∙ after_one 88 c cs))
 
-pub behind_x : (cs : List ℕ) (r s both : Option (Bor (List ℕ))) → chars_of r ≡ after (chars (120 ∷ [])) cs →
-    chars_of s ≡ after (chars (88 ∷ [])) cs → both ≡ option_or r s → BehindX cs both
-behind_x cs r s both e f is =
-    subst (BehindX cs) (sym is) (x_of cs r s (e ∙ ap (λ m. after m cs) chars-small-x)
+pub after_x : (cs : List ℕ) (r s both : Option (Bor (List ℕ))) → chars_of r ≡ after (chars (120 ∷ [])) cs →
+    chars_of s ≡ after (chars (88 ∷ [])) cs → both ≡ option_or r s → AfterX cs both
+after_x cs r s both e f is =
+    subst (AfterX cs) (sym is) (x_of cs r s (e ∙ ap (λ m. after m cs) chars-small-x)
     (f ∙ ap (λ m. after m cs) chars-large-x))

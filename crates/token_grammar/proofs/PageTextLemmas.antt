@@ -1,6 +1,6 @@
 -- Adding a character to the text of a page.
-use Rattle.std.proofs.Common.{◌≡◌, ◌≢◌, ℕ, false, if◌then◌else◌, List, [], ◌∷◌, ◌++◌, IsUtf8, Result, Ok, Err, OnOk}
-use Rattle.std.proofs.Common.{is_ok, sym, ap, ◌∙◌, append_assoc}
+use Rattle.std.proofs.Common.{◌≡◌, ◌≢◌, if◌then◌else◌, [], ◌∷◌, ◌++◌, ◌∙◌, Err, IsUtf8, List, Ok, OnOk, Result, ap}
+use Rattle.std.proofs.Common.{append_assoc, false, is_ok, sym, ℕ}
 use Rattle.std.proofs.lemmas.Bool.{ne_eqb, eq-eqb}
 use Rattle.std.proofs.lemmas.Str.{chars-append}
 use Rattle.std.specs.Str.{chars}

@@ -1,6 +1,6 @@
 -- What follows a lexeme is shorter than the text.
-use Rattle.std.proofs.Common.{ℕ, zero, suc, ◌<◌, ◌≤◌, Bool, true, false, cond, not, ◌==◌, ◌&&◌, ◌||◌, List, [], ◌∷◌}
-use Rattle.std.proofs.Common.{◌++◌, length, drop, codes, Option, Some, None, arith, length-drop}
+use Rattle.std.proofs.Common.{◌<◌, ◌≤◌, ◌==◌, ◌&&◌, ◌||◌, [], ◌∷◌, ◌++◌, Bool, List, None, Option, Some, arith, codes}
+use Rattle.std.proofs.Common.{cond, drop, false, length, length-drop, not, suc, true, zero, ℕ}
 use Rattle.std.specs.Prelude.{IfSome, option_map, option_and_then}
 use Rattle.std.specs.Option.{option_or}
 use Rattle.lex_base.specs.References.{References}
@@ -13,23 +13,24 @@ use Rattle.html_lexemes.specs.declared.token.TagKind.TheVariants.{StartTag, EndT
 use Rattle.std.specs.FinMap as finite
 use Rattle.std.specs.List.{list_any}
 use Rattle.token_grammar.specs.Characters.{is_digit, is_letter, is_space, name_of, shown}
-use Rattle.token_grammar.specs.Comments.{bogus_comment_slice, comment_mark, comment_slice, empty_comment, found_or_ended}
-use Rattle.token_grammar.specs.Doctypes.{DoctypeEnd, behind_identifier, behind_keyword, behind_public, behind_spaces}
-use Rattle.token_grammar.specs.Doctypes.{behind_system, doctype_at, ends_identifier, ends_here, identifier, is_quote}
+use Rattle.token_grammar.specs.Comments.{bogus_comment_slice, comment_mark, comment_slice, empty_comment}
+use Rattle.token_grammar.specs.Comments.{found_or_ended}
+use Rattle.token_grammar.specs.Doctypes.{DoctypeEnd, after_identifier, after_keyword, after_public, after_spaces}
+use Rattle.token_grammar.specs.Doctypes.{after_system, doctype_at, ends_here, ends_identifier, identifier, is_quote}
 use Rattle.token_grammar.specs.Doctypes.{named_doctype, public_at, skipped, system_at, system_or, with_public}
 use Rattle.token_grammar.specs.Doctypes.{with_quirks, with_system}
 use Rattle.token_grammar.specs.Items.{error}
-use Rattle.token_grammar.specs.Lexemes.{Lexeme, behind_slash, cdata_lexeme, comment_lexeme, declaration, doctype_lexeme}
-use Rattle.token_grammar.specs.Lexemes.{ends_raw_text, has_end_tags, has_references, in_kind, kind_behind, lexeme}
-use Rattle.token_grammar.specs.Lexemes.{lexeme_in, markup, nothing, one_character, ordinary_item, ordinary_lexeme}
-use Rattle.token_grammar.specs.Lexemes.{raw_lexeme, reference_lexeme, tag_lexeme, told, tagged}
-use Rattle.token_grammar.specs.References.{Found, behind_number_sign, is_x, named, named_from, named_here, numeric}
+use Rattle.token_grammar.specs.Lexemes.{Lexeme, after_slash, cdata_lexeme, comment_lexeme, declaration, doctype_lexeme}
+use Rattle.token_grammar.specs.Lexemes.{emitted, ends_raw_text, has_end_tags, has_references, in_kind, kind_after}
+use Rattle.token_grammar.specs.Lexemes.{lexeme, lexeme_in, markup, nothing, one_character, ordinary_item}
+use Rattle.token_grammar.specs.Lexemes.{ordinary_lexeme, raw_lexeme, reference_lexeme, tag_lexeme, tagged}
+use Rattle.token_grammar.specs.References.{Found, after_number_sign, is_x, named, named_from, named_here, numeric}
 use Rattle.token_grammar.specs.References.{reference}
 use Rattle.token_grammar.specs.Slices.{Cut, after, begins, begins_word, cut, cut_here, cut_or_all, first_passes}
 use Rattle.token_grammar.specs.Slices.{front_while, longer, rest_while}
-use Rattle.token_grammar.specs.Tags.{TagEnd, attribute_at, behind_gap, ends_attribute_name, ends_tag_name, ends_unquoted}
-use Rattle.token_grammar.specs.Tags.{ends_with_slash, is_gap, tag_at, tag_end, tag_end_from, tag_of, with_attribute}
-use Rattle.token_grammar.specs.Tags.{value_behind, without_spaces, written_value}
+use Rattle.token_grammar.specs.Tags.{TagEnd, after_gap, attribute_at, ends_attribute_name, ends_tag_name, ends_unquoted}
+use Rattle.token_grammar.specs.Tags.{ends_with_slash, is_gap, tag_at, tag_end, tag_end_from, tag_of, value_after}
+use Rattle.token_grammar.specs.Tags.{with_attribute, without_spaces, written_value}
 use Rattle.token_grammar.specs.declared.modes.Mode.{Mode}
 use Rattle.token_grammar.specs.declared.modes.TextKind.{TextKind}
 use Rattle.token_grammar.specs.declared.modes.TextKind.TheVariants.{Ordinary, Plain, Raw}
@@ -134,17 +135,17 @@ spaces_le n cs h = let k = rest_while_le is_space cs in omega arith
 drop_within : (n k : ℕ) (cs : List ℕ) → length cs ≤ n → length (drop k cs) ≤ n
 drop_within n k cs h = let l = drop_le k cs in omega arith
 
-behind_system_le : (n : ℕ) (d : Doctype) (cs : List ℕ) → length cs ≤ n → Ends n (behind_system d cs)
-behind_system_le n d [] h = omega arith
-behind_system_le n d (c ∷ cs) h = skipped_le n d (c ∷ cs) h
+after_system_le : (n : ℕ) (d : Doctype) (cs : List ℕ) → length cs ≤ n → Ends n (after_system d cs)
+after_system_le n d [] h = omega arith
+after_system_le n d (c ∷ cs) h = skipped_le n d (c ∷ cs) h
 
 system_at_le : (n : ℕ) (d : Doctype) (quote : ℕ) (cs : List ℕ) → length cs ≤ n → Ends n (system_at d quote cs)
 system_at_le n d quote cs h =
-    let l : length (behind_identifier quote cs) ≤ n = (let k = rest_while_le (λ c. not (ends_identifier quote c)) cs in omega arith) in
-    both (Ends n) (begins (quote ∷ []) (behind_identifier quote cs))
-    (behind_system (with_system d (identifier quote cs)) (without_spaces (drop 1 (behind_identifier quote cs))))
-    (skipped (with_quirks (with_system d (identifier quote cs))) (behind_identifier quote cs))
-    (behind_system_le n (with_system d (identifier quote cs)) _ (spaces_le n _ (drop_within n 1 _ l)))
+    let l : length (after_identifier quote cs) ≤ n = (let k = rest_while_le (λ c. not (ends_identifier quote c)) cs in omega arith) in
+    both (Ends n) (begins (quote ∷ []) (after_identifier quote cs))
+    (after_system (with_system d (identifier quote cs)) (without_spaces (drop 1 (after_identifier quote cs))))
+    (skipped (with_quirks (with_system d (identifier quote cs))) (after_identifier quote cs))
+    (after_system_le n (with_system d (identifier quote cs)) _ (spaces_le n _ (drop_within n 1 _ l)))
     (skipped_le n (with_quirks (with_system d (identifier quote cs))) _ l)
 
 system_or_le : (n : ℕ) (d : Doctype) (otherwise : List ℕ → DoctypeEnd) →
@@ -157,44 +158,44 @@ system_or_le n d otherwise f (c ∷ cs) h =
 
 public_at_le : (n : ℕ) (d : Doctype) (quote : ℕ) (cs : List ℕ) → length cs ≤ n → Ends n (public_at d quote cs)
 public_at_le n d quote cs h =
-    let l : length (behind_identifier quote cs) ≤ n = (let k = rest_while_le (λ c. not (ends_identifier quote c)) cs in omega arith) in
-    both (Ends n) (begins (quote ∷ []) (behind_identifier quote cs))
+    let l : length (after_identifier quote cs) ≤ n = (let k = rest_while_le (λ c. not (ends_identifier quote c)) cs in omega arith) in
+    both (Ends n) (begins (quote ∷ []) (after_identifier quote cs))
     (system_or (with_public d (identifier quote cs)) (ends_here (with_public d (identifier quote cs)))
-    (without_spaces (drop 1 (behind_identifier quote cs))))
-    (skipped (with_quirks (with_public d (identifier quote cs))) (behind_identifier quote cs))
+    (without_spaces (drop 1 (after_identifier quote cs))))
+    (skipped (with_quirks (with_public d (identifier quote cs))) (after_identifier quote cs))
     (system_or_le n (with_public d (identifier quote cs)) (ends_here (with_public d (identifier quote cs)))
     (λ ds k. ends_here_le n (with_public d (identifier quote cs)) ds k) _ (spaces_le n _ (drop_within n 1 _ l)))
     (skipped_le n (with_quirks (with_public d (identifier quote cs))) _ l)
 
-behind_public_le : (n : ℕ) (d : Doctype) (cs : List ℕ) → length cs ≤ n → Ends n (behind_public d cs)
-behind_public_le n d [] h = skipped_le n (with_quirks d) [] h
-behind_public_le n d (c ∷ cs) h =
+after_public_le : (n : ℕ) (d : Doctype) (cs : List ℕ) → length cs ≤ n → Ends n (after_public d cs)
+after_public_le n d [] h = skipped_le n (with_quirks d) [] h
+after_public_le n d (c ∷ cs) h =
     both (Ends n) (is_quote c) (public_at d c cs) (skipped (with_quirks d) (c ∷ cs))
     (public_at_le n d c cs (omega arith)) (skipped_le n (with_quirks d) (c ∷ cs) h)
 
-behind_keyword_le : (n : ℕ) (d : Doctype) (cs : List ℕ) → length cs ≤ n → Ends n (behind_keyword d cs)
-behind_keyword_le n d cs h =
-    both (Ends n) (begins_word (codes "public") cs) (behind_public d (without_spaces (drop 6 cs)))
+after_keyword_le : (n : ℕ) (d : Doctype) (cs : List ℕ) → length cs ≤ n → Ends n (after_keyword d cs)
+after_keyword_le n d cs h =
+    both (Ends n) (begins_word (codes "public") cs) (after_public d (without_spaces (drop 6 cs)))
     (cond (begins_word (codes "system") cs) (system_or d (skipped (with_quirks d)) (without_spaces (drop 6 cs)))
     (ends_here d cs))
-    (behind_public_le n d _ (spaces_le n _ (drop_within n 6 cs h)))
+    (after_public_le n d _ (spaces_le n _ (drop_within n 6 cs h)))
     (both (Ends n) (begins_word (codes "system") cs)
     (system_or d (skipped (with_quirks d)) (without_spaces (drop 6 cs))) (ends_here d cs)
     (system_or_le n d (skipped (with_quirks d)) (λ ds k. skipped_le n (with_quirks d) ds k) _
     (spaces_le n _ (drop_within n 6 cs h)))
     (ends_here_le n d cs h))
 
-behind_spaces_le : (n : ℕ) (cs : List ℕ) → length cs ≤ n → Ends n (behind_spaces cs)
-behind_spaces_le n cs h =
+after_spaces_le : (n : ℕ) (cs : List ℕ) → length cs ≤ n → Ends n (after_spaces cs)
+after_spaces_le n cs h =
     both (Ends n) (length (front_while (λ c. not (ends_unquoted c)) cs) == 0)
     (skipped (with_quirks (named_doctype None)) cs)
-    (behind_keyword (named_doctype (Some (name_of (front_while (λ c. not (ends_unquoted c)) cs))))
+    (after_keyword (named_doctype (Some (name_of (front_while (λ c. not (ends_unquoted c)) cs))))
     (without_spaces (rest_while (λ c. not (ends_unquoted c)) cs)))
     (skipped_le n (with_quirks (named_doctype None)) cs h)
-    (behind_keyword_le n (named_doctype (Some (name_of (front_while (λ c. not (ends_unquoted c)) cs)))) _ (spaces_le n (rest_while (λ c. not (ends_unquoted c)) cs) (let k = rest_while_le (λ c. not (ends_unquoted c)) cs in omega arith)))
+    (after_keyword_le n (named_doctype (Some (name_of (front_while (λ c. not (ends_unquoted c)) cs)))) _ (spaces_le n (rest_while (λ c. not (ends_unquoted c)) cs) (let k = rest_while_le (λ c. not (ends_unquoted c)) cs in omega arith)))
 
 pub doctype_le : (cs : List ℕ) → length (doctype_at cs).rest ≤ length cs
-doctype_le cs = behind_spaces_le (length cs) (without_spaces cs) (spaces_le (length cs) cs (omega arith))
+doctype_le cs = after_spaces_le (length cs) (without_spaces cs) (spaces_le (length cs) cs (omega arith))
 
 -- references
 here_found_le : (table : References) (front rest : List ℕ) (o : Option (List ℕ)) →
@@ -226,7 +227,7 @@ pub reference_le : (table : References) (cs : List ℕ) →
     IfSome (reference table cs) (λ found. length found.rest ≤ length cs)
 reference_le table cs =
     let P : Option Found → Type 0 = λ o. IfSome o (λ found. length found.rest ≤ length cs) in
-    both P (begins (35 ∷ []) cs) (behind_number_sign (drop 1 cs)) (named table cs)
+    both P (begins (35 ∷ []) cs) (after_number_sign (drop 1 cs)) (named table cs)
     (both P (first_passes is_x (drop 1 cs)) (numeric 16 (drop 1 (drop 1 cs))) (numeric 10 (drop 1 cs))
     (weaker_if (λ found. length found.rest ≤ length (drop 1 (drop 1 cs))) (λ found. length found.rest ≤ length cs) (λ found h. let k = drop_le 1 (drop 1 cs) in let l = drop_le 1 cs in omega arith) _ (numeric_le 16 (drop 1 (drop 1 cs))))
     (weaker_if (λ found. length found.rest ≤ length (drop 1 cs)) (λ found. length found.rest ≤ length cs)
@@ -248,8 +249,8 @@ written_le n (c ∷ cs) h = both (λ o. IfSome o (CutWithin n)) (c == 34 || c ==
     (cut_le (after (c ∷ [])) (after_le (c ∷ [])) cs))
     (let k = rest_while_le (λ d. not (ends_unquoted d)) (c ∷ cs) in omega arith)
 
-value_behind_le : (n : ℕ) (cs : List ℕ) → length cs ≤ n → IfSome (value_behind cs) (CutWithin n)
-value_behind_le n cs h =
+value_after_le : (n : ℕ) (cs : List ℕ) → length cs ≤ n → IfSome (value_after cs) (CutWithin n)
+value_after_le n cs h =
     both (λ o. IfSome o (CutWithin n)) (begins (61 ∷ []) (without_spaces cs))
     (written_value (without_spaces (drop 1 (without_spaces cs)))) (Some (record { slice = []; rest = cs }))
     (written_le n _ (spaces_le n _ (drop_within n 1 _ (spaces_le n cs h)))) h
@@ -261,18 +262,18 @@ attribute_le : (table : References) (n c : ℕ) (cs : List ℕ) → length cs �
     IfSome (attribute_at table c cs) (AttributeWithin n)
 attribute_le table n c cs h =
     map_if (CutWithin n) (AttributeWithin n) _ (λ cut k. k)
-    (value_behind (rest_while (λ d. not (ends_attribute_name d)) cs))
-    (value_behind_le n (rest_while (λ d. not (ends_attribute_name d)) cs)
+    (value_after (rest_while (λ d. not (ends_attribute_name d)) cs))
+    (value_after_le n (rest_while (λ d. not (ends_attribute_name d)) cs)
     (let k = rest_while_le (λ d. not (ends_attribute_name d)) cs in omega arith))
 
 abbrev EndWithin : ℕ → TagEnd → Type 0
 EndWithin n end = length end.rest ≤ n
 
-behind_gap_le : (table : References) (n : ℕ) (closes : Bool) (further : List ℕ → Option TagEnd) →
+after_gap_le : (table : References) (n : ℕ) (closes : Bool) (further : List ℕ → Option TagEnd) →
     ((cs : List ℕ) → length cs ≤ n → IfSome (further cs) (EndWithin n)) → (cs : List ℕ) → length cs ≤ n →
-    IfSome (behind_gap table closes cs further) (EndWithin n)
-behind_gap_le table n closes further f [] h = tt
-behind_gap_le table n closes further f (c ∷ cs) h =
+    IfSome (after_gap table closes cs further) (EndWithin n)
+after_gap_le table n closes further f [] h = tt
+after_gap_le table n closes further f (c ∷ cs) h =
     both (λ o. IfSome o (EndWithin n)) (c == 62) (Some (record { attributes = []; self_closing = closes; rest = cs }))
     (option_and_then (λ read. option_map (with_attribute read.0) (further read.1)) (attribute_at table c cs))
     (let k : length cs ≤ n = omega arith in k)
@@ -284,7 +285,7 @@ behind_gap_le table n closes further f (c ∷ cs) h =
 tag_end_le : (table : References) (k n : ℕ) (cs : List ℕ) → length cs ≤ n →
     IfSome (tag_end_from table k cs) (EndWithin n)
 tag_end_le table zero n cs h = tt
-tag_end_le table (suc k) n cs h = behind_gap_le table n (ends_with_slash (front_while is_gap cs)) (tag_end_from table k) (λ ds l. tag_end_le table k n ds l) (rest_while is_gap cs) (let l = rest_while_le is_gap cs in omega arith)
+tag_end_le table (suc k) n cs h = after_gap_le table n (ends_with_slash (front_while is_gap cs)) (tag_end_from table k) (λ ds l. tag_end_le table k n ds l) (rest_while is_gap cs) (let l = rest_while_le is_gap cs in omega arith)
 
 abbrev TagWithin : ℕ → Tag × List ℕ → Type 0
 TagWithin n read = length read.1 ≤ n
@@ -299,106 +300,106 @@ tag_le table kind cs =
     (rest_while_le (λ c. not (ends_tag_name c)) cs))
 
 -- lexemes
-abbrev pub Behind : ℕ → Lexeme → Type 0
-Behind n nothing = Unit {0}
-Behind n (told items mode rest) = length rest < n
-Behind n (tagged t rest) = length rest < n
+abbrev pub After : ℕ → Lexeme → Type 0
+After n nothing = Unit {0}
+After n (emitted items mode rest) = length rest < n
+After n (tagged t rest) = length rest < n
 
-tag_behind : (n : ℕ) (o : Option (Tag × List ℕ)) → IfSome o (λ read. length read.1 < n) → Behind n (tag_lexeme o)
-tag_behind n None h = tt
-tag_behind n (Some read) h = h
+tag_after : (n : ℕ) (o : Option (Tag × List ℕ)) → IfSome o (λ read. length read.1 < n) → After n (tag_lexeme o)
+tag_after n None h = tt
+tag_after n (Some read) h = h
 
-reference_behind : (n : ℕ) (mode : Mode) (cs : List ℕ) (o : Option Found) → length cs < n →
-    IfSome o (λ found. length found.rest ≤ length cs) → Behind n (reference_lexeme mode cs o)
-reference_behind n mode cs None l h = l
-reference_behind n mode cs (Some found) l h = omega arith
+reference_after : (n : ℕ) (mode : Mode) (cs : List ℕ) (o : Option Found) → length cs < n →
+    IfSome o (λ found. length found.rest ≤ length cs) → After n (reference_lexeme mode cs o)
+reference_after n mode cs None l h = l
+reference_after n mode cs (Some found) l h = omega arith
 
-tag_lexeme_behind : (table : References) (n : ℕ) (kind : TagKind) (cs : List ℕ) → length cs < n →
-    Behind n (tag_lexeme (tag_at table kind cs))
-tag_lexeme_behind table n kind cs h =
-    tag_behind n (tag_at table kind cs) (weaker_if (λ read. length read.1 ≤ length cs) (λ read. length read.1 < n)
+tag_lexeme_after : (table : References) (n : ℕ) (kind : TagKind) (cs : List ℕ) → length cs < n →
+    After n (tag_lexeme (tag_at table kind cs))
+tag_lexeme_after table n kind cs h =
+    tag_after n (tag_at table kind cs) (weaker_if (λ read. length read.1 ≤ length cs) (λ read. length read.1 < n)
     (λ read k. omega arith) (tag_at table kind cs) (tag_le table kind cs))
 
-comment_behind : (n : ℕ) (mode : Mode) (cut : Cut) → length cut.rest < n → Behind n (comment_lexeme mode cut)
-comment_behind n mode cut h = h
+comment_after : (n : ℕ) (mode : Mode) (cut : Cut) → length cut.rest < n → After n (comment_lexeme mode cut)
+comment_after n mode cut h = h
 
-slash_behind : (table : References) (n : ℕ) (mode : Mode) (cs : List ℕ) → suc (length cs) < n →
-    Behind n (behind_slash table mode cs)
-slash_behind table n mode [] h = omega arith
-slash_behind table n mode (c ∷ cs) h =
-    both (Behind n) (is_letter c) (tag_lexeme (tag_at table EndTag (c ∷ cs)))
-    (cond (c == 62) (told (error ∷ []) mode cs) (comment_lexeme mode (bogus_comment_slice (c ∷ cs))))
-    (tag_lexeme_behind table n EndTag (c ∷ cs) (omega arith))
-    (both (Behind n) (c == 62) (told (error ∷ []) mode cs) (comment_lexeme mode (bogus_comment_slice (c ∷ cs)))
+slash_after : (table : References) (n : ℕ) (mode : Mode) (cs : List ℕ) → suc (length cs) < n →
+    After n (after_slash table mode cs)
+slash_after table n mode [] h = omega arith
+slash_after table n mode (c ∷ cs) h =
+    both (After n) (is_letter c) (tag_lexeme (tag_at table EndTag (c ∷ cs)))
+    (cond (c == 62) (emitted (error ∷ []) mode cs) (comment_lexeme mode (bogus_comment_slice (c ∷ cs))))
+    (tag_lexeme_after table n EndTag (c ∷ cs) (omega arith))
+    (both (After n) (c == 62) (emitted (error ∷ []) mode cs) (comment_lexeme mode (bogus_comment_slice (c ∷ cs)))
     (let k : length cs < n = omega arith in k) (let k = bogus_le (c ∷ cs) in omega arith))
 
-declaration_behind : (n : ℕ) (foreign : Bool) (mode : Mode) (cs : List ℕ) → length cs < n →
-    Behind n (declaration foreign mode cs)
-declaration_behind n foreign mode cs h =
-    both (Behind n) (begins (codes "--") cs) (comment_lexeme mode (comment_slice (drop 2 cs)))
+declaration_after : (n : ℕ) (foreign : Bool) (mode : Mode) (cs : List ℕ) → length cs < n →
+    After n (declaration foreign mode cs)
+declaration_after n foreign mode cs h =
+    both (After n) (begins (codes "--") cs) (comment_lexeme mode (comment_slice (drop 2 cs)))
     (cond (begins_word (codes "doctype") cs) (doctype_lexeme mode (doctype_at (drop 7 cs)))
     (cond (foreign && begins (codes "[CDATA[") cs)
     (cdata_lexeme mode (cut_or_all (cut (after (codes "]]>")) (drop 7 cs)) (drop 7 cs)))
     (comment_lexeme mode (bogus_comment_slice cs))))
     (let k = comment_le (drop 2 cs) in let l = drop_le 2 cs in omega arith)
-    (both (Behind n) (begins_word (codes "doctype") cs) (doctype_lexeme mode (doctype_at (drop 7 cs)))
+    (both (After n) (begins_word (codes "doctype") cs) (doctype_lexeme mode (doctype_at (drop 7 cs)))
     (cond (foreign && begins (codes "[CDATA[") cs)
     (cdata_lexeme mode (cut_or_all (cut (after (codes "]]>")) (drop 7 cs)) (drop 7 cs)))
     (comment_lexeme mode (bogus_comment_slice cs)))
     (let k = doctype_le (drop 7 cs) in let l = drop_le 7 cs in omega arith)
-    (both (Behind n) (foreign && begins (codes "[CDATA[") cs)
+    (both (After n) (foreign && begins (codes "[CDATA[") cs)
     (cdata_lexeme mode (cut_or_all (cut (after (codes "]]>")) (drop 7 cs)) (drop 7 cs)))
     (comment_lexeme mode (bogus_comment_slice cs))
     (let k = cut_or_all_le (codes "]]>") (drop 7 cs) in let l = drop_le 7 cs in omega arith)
     (let k = bogus_le cs in omega arith)))
 
-markup_behind : (table : References) (n : ℕ) (foreign : Bool) (mode : Mode) (cs : List ℕ) → length cs < n →
-    Behind n (markup table foreign mode cs)
-markup_behind table n foreign mode [] h = h
-markup_behind table n foreign mode (c ∷ cs) h =
-    both (Behind n) (is_letter c) (tag_lexeme (tag_at table StartTag (c ∷ cs)))
-    (cond (c == 47) (behind_slash table mode cs)
+markup_after : (table : References) (n : ℕ) (foreign : Bool) (mode : Mode) (cs : List ℕ) → length cs < n →
+    After n (markup table foreign mode cs)
+markup_after table n foreign mode [] h = h
+markup_after table n foreign mode (c ∷ cs) h =
+    both (After n) (is_letter c) (tag_lexeme (tag_at table StartTag (c ∷ cs)))
+    (cond (c == 47) (after_slash table mode cs)
     (cond (c == 33) (declaration foreign mode cs)
     (cond (c == 63) (comment_lexeme mode (bogus_comment_slice (c ∷ cs))) (one_character mode 60 (c ∷ cs)))))
-    (tag_lexeme_behind table n StartTag (c ∷ cs) h)
-    (both (Behind n) (c == 47) (behind_slash table mode cs)
+    (tag_lexeme_after table n StartTag (c ∷ cs) h)
+    (both (After n) (c == 47) (after_slash table mode cs)
     (cond (c == 33) (declaration foreign mode cs)
     (cond (c == 63) (comment_lexeme mode (bogus_comment_slice (c ∷ cs))) (one_character mode 60 (c ∷ cs))))
-    (slash_behind table n mode cs (omega arith))
-    (both (Behind n) (c == 33) (declaration foreign mode cs)
+    (slash_after table n mode cs (omega arith))
+    (both (After n) (c == 33) (declaration foreign mode cs)
     (cond (c == 63) (comment_lexeme mode (bogus_comment_slice (c ∷ cs))) (one_character mode 60 (c ∷ cs)))
-    (declaration_behind n foreign mode cs (omega arith))
-    (both (Behind n) (c == 63) (comment_lexeme mode (bogus_comment_slice (c ∷ cs))) (one_character mode 60 (c ∷ cs))
+    (declaration_after n foreign mode cs (omega arith))
+    (both (After n) (c == 63) (comment_lexeme mode (bogus_comment_slice (c ∷ cs))) (one_character mode 60 (c ∷ cs))
     (let k = bogus_le (c ∷ cs) in omega arith) h)))
 
-ordinary_behind : (table : References) (n : ℕ) (foreign : Bool) (mode : Mode) (c : ℕ) (cs : List ℕ) → length cs < n →
-    Behind n (ordinary_lexeme table foreign mode c cs)
-ordinary_behind table n foreign mode c cs h =
-    both (Behind n) (c == 60) (markup table foreign mode cs)
-    (cond (c == 38) (reference_lexeme mode cs (reference table cs)) (told (ordinary_item c ∷ []) mode cs))
-    (markup_behind table n foreign mode cs h)
-    (both (Behind n) (c == 38) (reference_lexeme mode cs (reference table cs)) (told (ordinary_item c ∷ []) mode cs)
-    (reference_behind n mode cs (reference table cs) h (reference_le table cs)) h)
+ordinary_after : (table : References) (n : ℕ) (foreign : Bool) (mode : Mode) (c : ℕ) (cs : List ℕ) → length cs < n →
+    After n (ordinary_lexeme table foreign mode c cs)
+ordinary_after table n foreign mode c cs h =
+    both (After n) (c == 60) (markup table foreign mode cs)
+    (cond (c == 38) (reference_lexeme mode cs (reference table cs)) (emitted (ordinary_item c ∷ []) mode cs))
+    (markup_after table n foreign mode cs h)
+    (both (After n) (c == 38) (reference_lexeme mode cs (reference table cs)) (emitted (ordinary_item c ∷ []) mode cs)
+    (reference_after n mode cs (reference table cs) h (reference_le table cs)) h)
 
-raw_behind : (table : References) (n : ℕ) (kind : RawKind) (mode : Mode) (c : ℕ) (cs : List ℕ) → length cs < n →
-    Behind n (raw_lexeme table kind mode c cs)
-raw_behind table n kind mode c cs h =
-    both (Behind n) (c == 60 && has_end_tags kind && ends_raw_text mode.last_start_tag cs)
+raw_after : (table : References) (n : ℕ) (kind : RawKind) (mode : Mode) (c : ℕ) (cs : List ℕ) → length cs < n →
+    After n (raw_lexeme table kind mode c cs)
+raw_after table n kind mode c cs h =
+    both (After n) (c == 60 && has_end_tags kind && ends_raw_text mode.last_start_tag cs)
     (tag_lexeme (tag_at table EndTag (drop 1 cs)))
     (cond (c == 38 && has_references kind) (reference_lexeme mode cs (reference table cs))
-    (one_character (in_kind mode (kind_behind kind (c ∷ cs))) (shown c) cs))
-    (tag_lexeme_behind table n EndTag (drop 1 cs) (let k = drop_le 1 cs in omega arith))
-    (both (Behind n) (c == 38 && has_references kind) (reference_lexeme mode cs (reference table cs))
-    (one_character (in_kind mode (kind_behind kind (c ∷ cs))) (shown c) cs)
-    (reference_behind n mode cs (reference table cs) h (reference_le table cs)) h)
+    (one_character (in_kind mode (kind_after kind (c ∷ cs))) (shown c) cs))
+    (tag_lexeme_after table n EndTag (drop 1 cs) (let k = drop_le 1 cs in omega arith))
+    (both (After n) (c == 38 && has_references kind) (reference_lexeme mode cs (reference table cs))
+    (one_character (in_kind mode (kind_after kind (c ∷ cs))) (shown c) cs)
+    (reference_after n mode cs (reference table cs) h (reference_le table cs)) h)
 
-in_behind : (table : References) (n : ℕ) (foreign : Bool) (kind : TextKind) (mode : Mode) (c : ℕ) (cs : List ℕ) →
-    length cs < n → Behind n (lexeme_in table foreign kind mode c cs)
-in_behind table n foreign Ordinary mode c cs h = ordinary_behind table n foreign mode c cs h
-in_behind table n foreign Plain mode c cs h = h
-in_behind table n foreign (Raw kind) mode c cs h = raw_behind table n kind mode c cs h
+in_after : (table : References) (n : ℕ) (foreign : Bool) (kind : TextKind) (mode : Mode) (c : ℕ) (cs : List ℕ) →
+    length cs < n → After n (lexeme_in table foreign kind mode c cs)
+in_after table n foreign Ordinary mode c cs h = ordinary_after table n foreign mode c cs h
+in_after table n foreign Plain mode c cs h = h
+in_after table n foreign (Raw kind) mode c cs h = raw_after table n kind mode c cs h
 
 pub shorter : (table : References) (foreign : Bool) (mode : Mode) (cs : List ℕ) →
-    Behind (length cs) (lexeme table foreign mode cs)
+    After (length cs) (lexeme table foreign mode cs)
 shorter table foreign mode [] = tt
-shorter table foreign mode (c ∷ cs) = in_behind table (length (c ∷ cs)) foreign mode.text mode c cs (omega arith)
+shorter table foreign mode (c ∷ cs) = in_after table (length (c ∷ cs)) foreign mode.text mode c cs (omega arith)

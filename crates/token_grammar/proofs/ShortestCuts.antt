@@ -1,9 +1,9 @@
 -- A cut is the shortest slice before a mark.
-use Rattle.std.proofs.Common.{◌≡◌, ℕ, suc, ◌<◌, List, [], ◌∷◌, ◌++◌, length, Option, Some, None, option_map, refl, sym}
-use Rattle.std.proofs.Common.{ap, subst, ◌∙◌, arith}
+use Rattle.std.proofs.Common.{◌≡◌, ◌<◌, [], ◌∷◌, ◌++◌, ◌∙◌, List, None, Option, Some, ap, arith, length, option_map}
+use Rattle.std.proofs.Common.{refl, subst, suc, sym, ℕ}
 use Rattle.std.proofs.lemmas.Option.{none-some, same_Some}
 use Rattle.token_grammar.specs.Slices.{Cut, HasNoMark, IsShortest, cut}
-use Rattle.token_grammar.proofs.SliceLemmas.{cut_with, behind_front, cut_on, cut_off}
+use Rattle.token_grammar.proofs.SliceLemmas.{cut_with, after_front, cut_on, cut_off}
 
 module _ (mark : List ℕ → Option (List ℕ)) where
   starts_here : (cs rest : List ℕ) → mark cs ≡ Some rest → IsShortest mark cs (cut_with [] rest)
@@ -37,11 +37,11 @@ module _ (mark : List ℕ → Option (List ℕ)) where
       let same : cut_with [] rest ≡ c = same_Some (cut_with [] rest) c (sym (cut_on mark x cs rest e) ∙ is) in
       subst (IsShortest mark (x ∷ cs)) same (starts_here (x ∷ cs) rest e)
   one_more x cs None None c e f h is =
-      absurd (none-some c (sym (cut_off mark x cs e ∙ ap (option_map (behind_front (x ∷ []))) f) ∙ is))
+      absurd (none-some c (sym (cut_off mark x cs e ∙ ap (option_map (after_front (x ∷ []))) f) ∙ is))
   one_more x cs None (Some d) c e f h is =
       let same : cut_with (x ∷ d.slice) d.rest ≡ c =
       same_Some (cut_with (x ∷ d.slice) d.rest) c
-      (sym (cut_off mark x cs e ∙ ap (option_map (behind_front (x ∷ []))) f) ∙ is) in
+      (sym (cut_off mark x cs e ∙ ap (option_map (after_front (x ∷ []))) f) ∙ is) in
       subst (IsShortest mark (x ∷ cs)) same (starts_later x cs d e (h d f))
 
   pub cut_shortest : (cs : List ℕ) (c : Cut) → cut mark cs ≡ Some c → IsShortest mark cs c
@@ -56,7 +56,7 @@ module _ (mark : List ℕ → Option (List ℕ)) where
       absurd (none-some (cut_with [] rest) (sym is ∙ cut_on mark x cs rest e))
   none_on x cs None (Some d) e f h is front c back whole =
       absurd (none-some (cut_with (x ∷ d.slice) d.rest)
-      (sym is ∙ cut_off mark x cs e ∙ ap (option_map (behind_front (x ∷ []))) f))
+      (sym is ∙ cut_off mark x cs e ∙ ap (option_map (after_front (x ∷ []))) f))
   none_on x cs None None e f h is [] c back whole = ap mark (sym whole) ∙ e
   none_on x cs None None e f h is
       (y ∷ front) c back whole = let tails : cs ≡ front ++ c ∷ back = cc in h f front c back tails

@@ -1,11 +1,11 @@
 -- Slices of a text that is read one character more.
-use Rattle.std.proofs.Common.{◌≡◌, ◌≢◌, ℕ, ◌+◌, ◌≤◌, Bool, true, false, List, [], ◌∷◌, ◌++◌, length, take, drop, Option}
-use Rattle.std.proofs.Common.{Some, None, MatchOption, option_map, Bor, IsUtf8, chars, refl, sym, ap, subst, ◌∙◌, arith}
-use Rattle.std.proofs.Common.{append_assoc, append-nil, encode_utf8, encode_utf8_all}
+use Rattle.std.proofs.Common.{◌≡◌, ◌≢◌, ◌+◌, ◌≤◌, [], ◌∷◌, ◌++◌, ◌∙◌, Bool, Bor, IsUtf8, List, MatchOption, None}
+use Rattle.std.proofs.Common.{Option, Some, ap, append-nil, append_assoc, arith, chars, drop, encode_utf8}
+use Rattle.std.proofs.Common.{encode_utf8_all, false, length, option_map, refl, subst, sym, take, true, ℕ}
 use Rattle.std.proofs.lemmas.Bool.{false≢true, and_parts, and_from, eqb-true, eq-eqb, ne_eqb, false_from_ne_true}
 use Rattle.std.proofs.lemmas.List.{drop_at, nil_from_length}
-use Rattle.std.proofs.lemmas.Str.{chars-append, chars-nil, chars_past_char, encodes-chars, encodes-append, IsUtf8-drop}
-use Rattle.std.proofs.lemmas.Str.{IsUtf8-nil, IsUtf8-past_char, IsCharBoundary-from_take}
+use Rattle.std.proofs.lemmas.Str.{IsCharBoundary-from_take, IsUtf8-drop, IsUtf8-nil, IsUtf8-past_char, chars-append}
+use Rattle.std.proofs.lemmas.Str.{chars-nil, chars_past_char, encodes-append, encodes-chars}
 use Rattle.std.specs.Char.{len_utf8, to_ascii_lowercase}
 use Rattle.std.specs.Str.{IsCharBoundary}
 use Rattle.std.specs.Str.Pattern.{FindsTextPrefix}
@@ -39,13 +39,13 @@ pub record IsSplitting (p : ℕ → Bool) (bs left : List ℕ) (n : ℕ) : Type 
   pub is_left : left ≡ drop n bs
   pub read : IsUtf8 (take n bs)
   pub front : front_while p (chars bs) ≡ chars (take n bs) ++ front_while p (chars left)
-  pub behind : rest_while p (chars bs) ≡ rest_while p (chars left)
+  pub trailing : rest_while p (chars bs) ≡ rest_while p (chars left)
 
 -- the first n bytes are the longest front
 pub record IsSplit (p : ℕ → Bool) (bs : List ℕ) (n : ℕ) : Type 0 where
   pub boundary : IsCharBoundary bs n
   pub front : chars (take n bs) ≡ front_while p (chars bs)
-  pub behind : chars (drop n bs) ≡ rest_while p (chars bs)
+  pub trailing : chars (drop n bs) ≡ rest_while p (chars bs)
 
 pub split_start : (p : ℕ → Bool) (bs left : List ℕ) → left ≡ bs → IsSplitting p bs left 0
 split_start p bs left e = record {
@@ -53,7 +53,7 @@ split_start p bs left e = record {
   is_left = e;
   read = IsUtf8-nil;
   front = rw chars-nil (ap (λ l. front_while p (chars l)) (sym e));
-  behind = ap (λ l. rest_while p (chars l)) (sym e);
+  trailing = ap (λ l. rest_while p (chars l)) (sym e);
 }
 
 module _ (p : ℕ → Bool) (bs left : List ℕ) (n : ℕ) (u : IsUtf8 bs) (h : IsSplitting p bs left n) where
@@ -77,7 +77,7 @@ module _ (p : ℕ → Bool) (bs left : List ℕ) (n : ℕ) (u : IsUtf8 bs) (h : 
             (front_on p c (chars rest) passes)
             ∙ sym (append_assoc (chars (take n bs)) (c ∷ []) (front_while p (chars rest)))
             ∙ ap (λ l. l ++ front_while p (chars rest)) (sym step.text);
-        behind = h.behind ∙ ap (rest_while p) first ∙ rest_on p c (chars rest) passes;
+        trailing = h.trailing ∙ ap (rest_while p) first ∙ rest_on p c (chars rest) passes;
       }
 
   pub split_stops : (rest : List ℕ) (c : ℕ) → left ≡ encode_utf8 c ++ rest → p c ≡ false → IsSplit p bs n
@@ -88,8 +88,8 @@ module _ (p : ℕ → Bool) (bs left : List ℕ) (n : ℕ) (u : IsUtf8 bs) (h : 
         front = sym
             (h.front ∙ ap (λ l. chars (take n bs) ++ l) (ap (front_while p) first ∙ front_off p c (chars rest) fails) ∙
             append-nil (chars (take n bs)));
-        behind = ap chars (sym h.is_left) ∙ first ∙
-            sym (h.behind ∙ ap (rest_while p) first ∙ rest_off p c (chars rest) fails);
+        trailing = ap chars (sym h.is_left) ∙ first ∙
+            sym (h.trailing ∙ ap (rest_while p) first ∙ rest_off p c (chars rest) fails);
       }
 
   pub split_ends : length left ≡ 0 → IsSplit p bs n
@@ -98,7 +98,7 @@ module _ (p : ℕ → Bool) (bs left : List ℕ) (n : ℕ) (u : IsUtf8 bs) (h : 
       record {
         boundary = edge;
         front = sym (h.front ∙ ap (λ l. chars (take n bs) ++ front_while p l) nothing ∙ append-nil (chars (take n bs)));
-        behind = ap chars (sym h.is_left) ∙ nothing ∙ sym (h.behind ∙ ap (rest_while p) nothing);
+        trailing = ap chars (sym h.is_left) ∙ nothing ∙ sym (h.trailing ∙ ap (rest_while p) nothing);
       }
 
 -- ---- marks
@@ -192,21 +192,21 @@ module _ (text word left more : List ℕ) (h : IsSpelling text word left more) w
 abbrev pub cut_with : List ℕ → List ℕ → Cut
 cut_with slice rest = record { slice = slice; rest = rest }
 
-abbrev pub behind_front : List ℕ → Cut → Cut
-behind_front front cut = cut_with (front ++ cut.slice) cut.rest
+abbrev pub after_front : List ℕ → Cut → Cut
+after_front front cut = cut_with (front ++ cut.slice) cut.rest
 
-behind_nothing : (o : Option Cut) → o ≡ option_map (behind_front []) o
-behind_nothing None = refl
-behind_nothing (Some k) = refl
+after_nothing : (o : Option Cut) → o ≡ option_map (after_front []) o
+after_nothing None = refl
+after_nothing (Some k) = refl
 
-behind_both : (front : List ℕ) (c : ℕ) (o : Option Cut) →
-    option_map (behind_front front) (option_map (behind_front (c ∷ [])) o)
-    ≡ option_map (behind_front (front ++ c ∷ [])) o
-behind_both front c None = refl
-behind_both front c (Some k) = ap (λ (l : List ℕ). Some (cut_with l k.rest)) (sym (append_assoc front (c ∷ []) k.slice))
+after_both : (front : List ℕ) (c : ℕ) (o : Option Cut) →
+    option_map (after_front front) (option_map (after_front (c ∷ [])) o)
+    ≡ option_map (after_front (front ++ c ∷ [])) o
+after_both front c None = refl
+after_both front c (Some k) = ap (λ (l : List ℕ). Some (cut_with l k.rest)) (sym (append_assoc front (c ∷ []) k.slice))
 
 pub cut_off : (mark : List ℕ → Option (List ℕ)) (c : ℕ) (cs : List ℕ) → mark (c ∷ cs) ≡ None →
-    cut mark (c ∷ cs) ≡ option_map (behind_front (c ∷ [])) (cut mark cs)
+    cut mark (c ∷ cs) ≡ option_map (after_front (c ∷ [])) (cut mark cs)
 cut_off mark c cs e = rw e refl
 
 pub cut_on : (mark : List ℕ → Option (List ℕ)) (c : ℕ) (cs rest : List ℕ) → mark (c ∷ cs) ≡ Some rest →
@@ -218,14 +218,14 @@ pub record IsCutting (mark : List ℕ → Option (List ℕ)) (bs left : List ℕ
   pub fits : n ≤ length bs
   pub is_left : left ≡ drop n bs
   pub read : IsUtf8 (take n bs)
-  pub so_far : cut mark (chars bs) ≡ option_map (behind_front (chars (take n bs))) (cut mark (chars left))
+  pub so_far : cut mark (chars bs) ≡ option_map (after_front (chars (take n bs))) (cut mark (chars left))
 
 pub cut_start : (mark : List ℕ → Option (List ℕ)) (bs left : List ℕ) → left ≡ bs → IsCutting mark bs left 0
 cut_start mark bs left e = record {
   fits = omega arith;
   is_left = e;
   read = IsUtf8-nil;
-  so_far = rw chars-nil (ap (λ l. cut mark (chars l)) (sym e) ∙ behind_nothing (cut mark (chars left)));
+  so_far = rw chars-nil (ap (λ l. cut mark (chars l)) (sym e) ∙ after_nothing (cut mark (chars left)));
 }
 
 module _ (mark : List ℕ → Option (List ℕ)) (bs left : List ℕ) (n : ℕ) (u : IsUtf8 bs)
@@ -247,25 +247,25 @@ module _ (mark : List ℕ → Option (List ℕ)) (bs left : List ℕ) (n : ℕ) 
         is_left = step.left;
         read = step.read;
         so_far =
-            h.so_far ∙ ap (λ l. option_map (behind_front (chars (take n bs))) (cut mark l)) first
-            ∙ ap (option_map (behind_front (chars (take n bs)))) (cut_off mark c (chars rest) here)
-            ∙ behind_both (chars (take n bs)) c (cut mark (chars rest))
-            ∙ ap (λ l. option_map (behind_front l) (cut mark (chars rest))) (sym step.text);
+            h.so_far ∙ ap (λ l. option_map (after_front (chars (take n bs))) (cut mark l)) first
+            ∙ ap (option_map (after_front (chars (take n bs)))) (cut_off mark c (chars rest) here)
+            ∙ after_both (chars (take n bs)) c (cut mark (chars rest))
+            ∙ ap (λ l. option_map (after_front l) (cut mark (chars rest))) (sym step.text);
       }
 
-  pub cut_found : (slice rest marked behind : List ℕ) (c : ℕ) → left ≡ encode_utf8 c ++ rest → slice ≡ take n bs →
-      marked ≡ drop n bs → Some (chars behind) ≡ mark (chars marked)
-      → Some (cut_with (chars slice) (chars behind)) ≡ cut mark (chars bs)
-  cut_found slice rest marked behind c e s m found =
+  pub cut_found : (slice rest marked trailing : List ℕ) (c : ℕ) → left ≡ encode_utf8 c ++ rest → slice ≡ take n bs →
+      marked ≡ drop n bs → Some (chars trailing) ≡ mark (chars marked)
+      → Some (cut_with (chars slice) (chars trailing)) ≡ cut mark (chars bs)
+  cut_found slice rest marked trailing c e s m found =
       let first : chars left ≡ c ∷ chars rest = first_of rest c e in
-      let here : mark (c ∷ chars rest) ≡ Some (chars behind) =
+      let here : mark (c ∷ chars rest) ≡ Some (chars trailing) =
       ap mark (sym (ap chars (m ∙ sym h.is_left) ∙ first)) ∙ sym found in
-      ap (λ (l : List ℕ). Some (cut_with (chars l) (chars behind))) s
+      ap (λ (l : List ℕ). Some (cut_with (chars l) (chars trailing))) s
       ∙ sym (
-      h.so_far ∙ ap (λ l. option_map (behind_front (chars (take n bs))) (cut mark l)) first
-      ∙ ap (option_map (behind_front (chars (take n bs)))) (cut_on mark c (chars rest) (chars behind) here)
-      ∙ ap (λ (l : List ℕ). Some (cut_with l (chars behind))) (append-nil (chars (take n bs))))
+      h.so_far ∙ ap (λ l. option_map (after_front (chars (take n bs))) (cut mark l)) first
+      ∙ ap (option_map (after_front (chars (take n bs)))) (cut_on mark c (chars rest) (chars trailing) here)
+      ∙ ap (λ (l : List ℕ). Some (cut_with l (chars trailing))) (append-nil (chars (take n bs))))
 
   pub cut_ends : length left ≡ 0 → None ≡ cut mark (chars bs)
   cut_ends none =
-      sym (h.so_far ∙ ap (λ l. option_map (behind_front (chars (take n bs))) (cut mark l)) (no_bytes left none))
+      sym (h.so_far ∙ ap (λ l. option_map (after_front (chars (take n bs))) (cut mark l)) (no_bytes left none))

@@ -1,12 +1,12 @@
 -- The characters of a name, and the last of a text.
-use Rattle.std.proofs.Common.{◌≡◌, ℕ, suc, ◌-◌, Bool, true, false, ◌==◌, List, [], ◌∷◌, ◌++◌, length, take, drop, None}
-use Rattle.std.proofs.Common.{MatchBool, IsUtf8, chars, String, string_bytes, refl, sym, ap, subst, ◌∙◌, arith}
-use Rattle.std.proofs.Common.{append_assoc, append-nil, encode_utf8, encode_utf8_all}
+use Rattle.std.proofs.Common.{◌≡◌, ◌-◌, ◌==◌, [], ◌∷◌, ◌++◌, ◌∙◌, Bool, IsUtf8, List, MatchBool, None, String, ap}
+use Rattle.std.proofs.Common.{append-nil, append_assoc, arith, chars, drop, encode_utf8, encode_utf8_all, false, length}
+use Rattle.std.proofs.Common.{refl, string_bytes, subst, suc, sym, take, true, ℕ}
 use Rattle.std.proofs.lemmas.Bool.{ne_eqb, eqb-true, and_parts}
 use Rattle.std.proofs.lemmas.Bool.Decides.{nat_tests}
 use Rattle.std.proofs.lemmas.List.{take-append-drop, drop_all, nil_from_length}
-use Rattle.std.proofs.lemmas.Str.{chars-append, chars-nil, chars_past_char, encodes-chars, encodes-append, IsUtf8-take}
-use Rattle.std.proofs.lemmas.Str.{IsUtf8-encode, IsUtf8-string_bytes, IsUtf8-past_char, cons_from_encodes}
+use Rattle.std.proofs.lemmas.Str.{IsUtf8-encode, IsUtf8-past_char, IsUtf8-string_bytes, IsUtf8-take, chars-append}
+use Rattle.std.proofs.lemmas.Str.{chars-nil, chars_past_char, cons_from_encodes, encodes-append, encodes-chars}
 use Rattle.std.proofs.Math.Utf8.{scalar}
 use Rattle.std.specs.Char.{IsScalar, to_ascii_lowercase}
 use Rattle.std.specs.Str.{all_scalars}
@@ -26,14 +26,14 @@ ends_in (d ∷ front) c = rw (ne_eqb (length (front ++ c ∷ [])) 0 (longer fron
   longer (d ∷ front) c e = omega arith
 
 -- what ends with `/` has it after the others
-abbrev HasSlashBehind : List ℕ → Type 0
-HasSlashBehind cs = (front : List ℕ) × (cs ≡ front ++ 47 ∷ [])
+abbrev HasSlashAfter : List ℕ → Type 0
+HasSlashAfter cs = (front : List ℕ) × (cs ≡ front ++ 47 ∷ [])
 
-slash_behind : (cs : List ℕ) → ends_with_slash cs ≡ true → HasSlashBehind cs
-slash_behind [] e = cc
-slash_behind (c ∷ []) e = ([], ap (λ d. d ∷ []) (eqb-true c 47 e))
-slash_behind (c ∷ d ∷ cs) e =
-    let rest = slash_behind (d ∷ cs) (sym (rw (ne_eqb (suc (length cs)) 0 (λ k. omega arith)) refl) ∙ e) in
+slash_after : (cs : List ℕ) → ends_with_slash cs ≡ true → HasSlashAfter cs
+slash_after [] e = cc
+slash_after (c ∷ []) e = ([], ap (λ d. d ∷ []) (eqb-true c 47 e))
+slash_after (c ∷ d ∷ cs) e =
+    let rest = slash_after (d ∷ cs) (sym (rw (ne_eqb (suc (length cs)) 0 (λ k. omega arith)) refl) ∙ e) in
     (c ∷ rest.0, ap (λ l. c ∷ l) rest.1)
 
 no_slash : (b : Bool) → (b ≡ true → ⊥) → false ≡ b
@@ -57,7 +57,7 @@ slash_tested bs true u h =
     sym (ap ends_with_slash whole ∙ ends_in (chars (take at bs)) 47)
 slash_tested bs false u h =
     no_slash (ends_with_slash (chars bs)) (λ e.
-    let found = slash_behind (chars bs) e in
+    let found = slash_after (chars bs) e in
     h (encode_utf8_all found.0) (sym (encodes-chars bs u) ∙ ap encode_utf8_all found.1 ∙
     encodes-append found.0 (47 ∷ []) ∙ ap (λ l. encode_utf8_all found.0 ++ l) (append-nil (encode_utf8 47))))
 
@@ -115,31 +115,31 @@ lowered_text cs bs left none =
     lowered_name cs (sym left ∙ ap chars (nil_from_length bs (eqb-true (length bs) 0 none)) ∙ chars-nil)
 
 -- a name goes on with its first character where this is of the class
-pub named-with_first : (made slice cs behind : List ℕ) (first : ℕ) → cs ≡ first ∷ behind →
+pub named-with_first : (made slice cs trailing : List ℕ) (first : ℕ) → cs ≡ first ∷ trailing →
     is_of AttributeName first ≡ true → slice ≡ front_while (is_of AttributeName) cs → made ≡ name_of slice
-    → made ≡ name_of (first ∷ front_while (is_of AttributeName) behind)
-named-with_first made slice cs behind first e passes front named =
+    → made ≡ name_of (first ∷ front_while (is_of AttributeName) trailing)
+named-with_first made slice cs trailing first e passes front named =
     named ∙ ap name_of (front ∙ ap (front_while (is_of AttributeName)) e ∙ front_on
-    (is_of AttributeName) first behind passes)
+    (is_of AttributeName) first trailing passes)
 
-pub left-with_first : (rest cs behind : List ℕ) (first : ℕ) → cs ≡ first ∷ behind → is_of AttributeName first ≡ true →
+pub left-with_first : (rest cs trailing : List ℕ) (first : ℕ) → cs ≡ first ∷ trailing → is_of AttributeName first ≡ true →
     rest ≡ rest_while (is_of AttributeName) cs
-    → rest ≡ rest_while (is_of AttributeName) behind
-left-with_first rest cs behind first e passes left =
-    left ∙ ap (rest_while (is_of AttributeName)) e ∙ rest_on (is_of AttributeName) first behind passes
+    → rest ≡ rest_while (is_of AttributeName) trailing
+left-with_first rest cs trailing first e passes left =
+    left ∙ ap (rest_while (is_of AttributeName)) e ∙ rest_on (is_of AttributeName) first trailing passes
 
-pub named-behind_first : (made slice behind : List ℕ) (first : ℕ) → slice ≡ front_while (is_of AttributeName) behind →
+pub named-after_first : (made slice trailing : List ℕ) (first : ℕ) → slice ≡ front_while (is_of AttributeName) trailing →
     made ≡ name_of (first ∷ slice)
-    → made ≡ name_of (first ∷ front_while (is_of AttributeName) behind)
-named-behind_first made slice behind first front named = named ∙ ap (λ l. name_of (first ∷ l)) front
+    → made ≡ name_of (first ∷ front_while (is_of AttributeName) trailing)
+named-after_first made slice trailing first front named = named ∙ ap (λ l. name_of (first ∷ l)) front
 
 pub named-all : (name rest whole : List ℕ) → IsNamed name rest whole → length rest ≡ 0 → chars name ≡ whole
 named-all name rest whole h none =
     sym (append-nil (chars name)) ∙ ap (λ l. chars name ++ name_of l)
     (sym (ap chars (nil_from_length rest none) ∙ chars-nil)) ∙ h.same
 
-pub named-behind : (made start text : List ℕ) → made ≡ chars start ++ name_of text → start ≡ [] → made ≡ name_of text
-named-behind made start text e none = e ∙ ap (λ l. l ++ name_of text) (ap chars none ∙ chars-nil)
+pub named-trailing : (made start text : List ℕ) → made ≡ chars start ++ name_of text → start ≡ [] → made ≡ name_of text
+named-trailing made start text e none = e ∙ ap (λ l. l ++ name_of text) (ap chars none ∙ chars-nil)
 
 pub named-from_first : (made start pushed text : List ℕ) (c d : ℕ) → IsScalar c → d ≡ to_ascii_lowercase (shown c) →
     start ≡ [] → pushed ≡ start ++ encode_utf8 d → made ≡ chars pushed ++ name_of text → made ≡ name_of (c ∷ text)

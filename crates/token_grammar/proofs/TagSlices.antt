@@ -1,7 +1,7 @@
 -- The pieces of a tag, put side by side, are its slice.
-use Rattle.std.proofs.Common.{◌≡◌, ℕ, zero, suc, Bool, true, false, cond, not, ◌==◌, ◌&&◌, ◌||◌, List, [], ◌∷◌, ◌++◌}
-use Rattle.std.proofs.Common.{length, drop, Option, Some, None, option_map, option_and_then, refl, sym, ap, subst, ◌∙◌}
-use Rattle.std.proofs.Common.{append_assoc}
+use Rattle.std.proofs.Common.{◌≡◌, ◌==◌, ◌&&◌, ◌||◌, [], ◌∷◌, ◌++◌, ◌∙◌, Bool, List, None, Option, Some, ap}
+use Rattle.std.proofs.Common.{append_assoc, cond, drop, false, length, not, option_and_then, option_map, refl, subst}
+use Rattle.std.proofs.Common.{suc, sym, true, zero, ℕ}
 use Rattle.std.proofs.lemmas.Bool.{and_from, and_parts, eqb-true, false≢true, or_from}
 use Rattle.std.proofs.lemmas.List.Sums.{AllPass-from_list_all}
 use Rattle.std.proofs.lemmas.Option.{none-some, same_Some}
@@ -16,9 +16,9 @@ use Rattle.token_grammar.specs.References.{value_of}
 use Rattle.token_grammar.specs.Slices.{Cut, after, begins, cut, cut_here, first_passes, front_while, longer, rest_while}
 use Rattle.token_grammar.specs.TagLaws.{AreWritten, IsAttributeSlice, IsRun, IsTagSlice, IsValueSlice, closes, has}
 use Rattle.token_grammar.specs.TagLaws.{missing, quoted, unquoted}
-use Rattle.token_grammar.specs.Tags.{TagEnd, attribute, attribute_at, behind_gap, ends_attribute_name, ends_tag_name}
+use Rattle.token_grammar.specs.Tags.{TagEnd, after_gap, attribute, attribute_at, ends_attribute_name, ends_tag_name}
 use Rattle.token_grammar.specs.Tags.{ends_unquoted, ends_with_slash, is_gap, tag_at, tag_end, tag_end_from, tag_of}
-use Rattle.token_grammar.specs.Tags.{value_behind, with_attribute, without_spaces, written_value}
+use Rattle.token_grammar.specs.Tags.{value_after, with_attribute, without_spaces, written_value}
 use Rattle.token_grammar.proofs.ValuesInTurn.{value_is}
 
 -- ---- what is there was made of something
@@ -110,24 +110,24 @@ record HasSlice (cs : List ℕ) (k : Cut) : Type 0 where
 abbrev is_unquoted : ℕ → Bool
 is_unquoted c = not (ends_unquoted c)
 
-pub without_quotes : (before after value behind : List ℕ) → before ++ 61 ∷ (after ++ (value ++ behind))
-    ≡ (before ++ 61 ∷ after ++ value) ++ behind
-without_quotes before after value behind = simp append_assoc
+pub without_quotes : (before after value trailing : List ℕ) → before ++ 61 ∷ (after ++ (value ++ trailing))
+    ≡ (before ++ 61 ∷ after ++ value) ++ trailing
+without_quotes before after value trailing = simp append_assoc
 
-pub with_quotes : (quote : ℕ) (before after value behind : List ℕ) →
-    before ++ 61 ∷ (after ++ quote ∷ (value ++ quote ∷ behind)) ≡ (before ++ 61 ∷ after ++ quote ∷ value ++ quote ∷ [])
-    ++ behind
-with_quotes quote before after value behind = simp append_assoc
+pub with_quotes : (quote : ℕ) (before after value trailing : List ℕ) →
+    before ++ 61 ∷ (after ++ quote ∷ (value ++ quote ∷ trailing)) ≡ (before ++ 61 ∷ after ++ quote ∷ value ++ quote ∷ [])
+    ++ trailing
+with_quotes quote before after value trailing = simp append_assoc
 
 module _ (cs before tail spaced : List ℕ) (k : Cut) (text_is : cs ≡ before ++ 61 ∷ tail)
     (spaces : list_all is_space before ≡ true) where
-  no_quotes : (value behind : List ℕ) → tail ≡ spaced ++ (value ++ behind) → IsRun is_space spaced (value ++ behind) →
-      first_passes is_quote value ≡ false → IsRun is_unquoted value behind
-      → HasSlice cs (record { slice = value; rest = behind })
-  no_quotes value behind e gap no_quote goes = record {
+  no_quotes : (value trailing : List ℕ) → tail ≡ spaced ++ (value ++ trailing) → IsRun is_space spaced (value ++ trailing) →
+      first_passes is_quote value ≡ false → IsRun is_unquoted value trailing
+      → HasSlice cs (record { slice = value; rest = trailing })
+  no_quotes value trailing e gap no_quote goes = record {
     slice = before ++ 61 ∷ spaced ++ value;
-    whole = text_is ∙ ap (λ l. before ++ 61 ∷ l) e ∙ without_quotes before spaced value behind;
-    is = unquoted before spaced value behind (before ++ 61 ∷ spaced ++ value) refl
+    whole = text_is ∙ ap (λ l. before ++ 61 ∷ l) e ∙ without_quotes before spaced value trailing;
+    is = unquoted before spaced value trailing (before ++ 61 ∷ spaced ++ value) refl
         (AllPass-from_list_all is_space before spaces) gap no_quote goes;
   }
 
@@ -142,11 +142,11 @@ module _ (cs before tail spaced : List ℕ) (k : Cut) (text_is : cs ≡ before +
         (AllPass-from_list_all (λ d. not (d == c)) k.slice h.none);
   }
 
-  behind_equals : (v : List ℕ) → tail ≡ spaced ++ v → IsRun is_space spaced v → written_value v ≡ Some k → HasSlice cs k
-  behind_equals [] e gap is =
+  after_equals : (v : List ℕ) → tail ≡ spaced ++ v → IsRun is_space spaced v → written_value v ≡ Some k → HasSlice cs k
+  after_equals [] e gap is =
       let nothing : Cut = record { slice = []; rest = [] } in
       subst (HasSlice cs) (same_Some nothing k is) (no_quotes [] [] e gap refl (run is_unquoted []))
-  behind_equals (c ∷ more) e gap is = at (is_quote c) refl is where
+  after_equals (c ∷ more) e gap is = at (is_quote c) refl is where
     at : (b : Bool) → is_quote c ≡ b
         → cond b (cut (after (c ∷ [])) more)
         (Some (record { slice = front_while is_unquoted (c ∷ more); rest = rest_while is_unquoted (c ∷ more) }))
@@ -162,7 +162,7 @@ module _ (cs before tail spaced : List ℕ) (k : Cut) (text_is : cs ≡ before +
         (e ∙ ap (λ l. spaced ++ l) parts) (subst (IsRun is_space spaced) parts gap)
         (first_of_front is_unquoted is_quote c more other) (run is_unquoted (c ∷ more)))
 
-value_slice : (cs : List ℕ) (k : Cut) → value_behind cs ≡ Some k → HasSlice cs k
+value_slice : (cs : List ℕ) (k : Cut) → value_after cs ≡ Some k → HasSlice cs k
 value_slice cs k e = at (without_spaces cs) (begins (61 ∷ []) (without_spaces cs)) refl refl e where
   at : (more : List ℕ) (b : Bool) → without_spaces cs ≡ more → begins (61 ∷ []) more ≡ b
       → cond b (written_value (without_spaces (drop 1 more))) (Some (record { slice = []; rest = cs })) ≡ Some k →
@@ -179,16 +179,16 @@ value_slice cs k e = at (without_spaces cs) (begins (61 ∷ []) (without_spaces 
       let equal : c ≡ 61 = eqb-true c 61 (and_parts (c == 61) true test).0 in
       let whole : cs ≡ front_while is_space cs ++ 61 ∷ tail =
       split is_space cs ∙ ap (λ l. front_while is_space cs ++ l) (is ∙ ap (λ d. d ∷ tail) equal) in
-      behind_equals cs (front_while is_space cs) tail (front_while is_space tail) k whole (front_passes is_space cs)
+      after_equals cs (front_while is_space cs) tail (front_while is_space tail) k whole (front_passes is_space cs)
       (rest_while is_space tail) (split is_space tail) (run is_space tail) h
 
 -- ---- attributes, and the end of a tag
 
 module _ (table : References) where
-  side_by_side : (c : ℕ) (name slice behind rest cs : List ℕ) → cs ≡ name ++ rest → rest ≡ slice ++ behind →
-      c ∷ cs ≡ c ∷ name ++ slice ++ behind
-  side_by_side c name slice behind rest cs e f =
-      ap (λ l. c ∷ l) (e ∙ ap (λ l. name ++ l) f ∙ sym (append_assoc name slice behind))
+  side_by_side : (c : ℕ) (name slice trailing rest cs : List ℕ) → cs ≡ name ++ rest → rest ≡ slice ++ trailing →
+      c ∷ cs ≡ c ∷ name ++ slice ++ trailing
+  side_by_side c name slice trailing rest cs e f =
+      ap (λ l. c ∷ l) (e ∙ ap (λ l. name ++ l) f ∙ sym (append_assoc name slice trailing))
 
   attribute_slice : (c : ℕ) (cs : List ℕ) (read : Attribute × List ℕ) → (is_gap c || c == 62) ≡ false →
       attribute_at table c cs ≡ Some read → IsAttributeSlice table (c ∷ cs) read.0 read.1
@@ -196,7 +196,7 @@ module _ (table : References) where
       let p : ℕ → Bool = λ d. not (ends_attribute_name d) in
       let make : Cut → Attribute × List ℕ =
       λ k. (attribute (name_of (c ∷ front_while p cs)) (value_of table k.slice), k.rest) in
-      let m = mapped make (value_behind (rest_while p cs)) read e in
+      let m = mapped make (value_after (rest_while p cs)) read e in
       let h = value_slice (rest_while p cs) m.from m.there in
       subst (λ (r : Attribute × List ℕ). IsAttributeSlice table (c ∷ cs) r.0 r.1) m.made
       (record {
@@ -219,7 +219,7 @@ module _ (table : References) where
   module _ (gap cs : List ℕ) (further : List ℕ → Option TagEnd) (end : TagEnd) (pass : list_all is_gap gap ≡ true)
       (on : (ds : List ℕ) (d : TagEnd) → further ds ≡ Some d → IsEnd ds d) where
     at_gap : (more : List ℕ) → cs ≡ gap ++ more → first_passes is_gap more ≡ false →
-        behind_gap table (ends_with_slash gap) more further ≡ Some end → IsEnd cs end
+        after_gap table (ends_with_slash gap) more further ≡ Some end → IsEnd cs end
     at_gap [] whole stops e = absurd (none-some end e)
     at_gap (c ∷ tail) whole stops e = at (c == 62) refl e where
       at : (b : Bool) → (c == 62) ≡ b
@@ -258,7 +258,7 @@ module _ (table : References) where
       subst (λ (r : Tag × List ℕ). IsTagSlice table kind cs r.0 r.1) m.made
       (record {
         name = front_while p cs;
-        behind = rest_while p cs;
+        trailing = rest_while p cs;
         attributes = m.from.attributes;
         closing = m.from.self_closing;
         side_by_side = split p cs;

@@ -1,7 +1,7 @@
 -- References in an attribute's value, and the value that is made of them.
-use Rattle.std.proofs.Common.{◌≡◌, ℕ, zero, suc, ◌≤◌, Bool, true, false, not, ◌&&◌, ◌||◌, cond, List, [], ◌∷◌, ◌++◌}
-use Rattle.std.proofs.Common.{length, drop, eqb, Option, Some, None, IfSome, option_map, option_and_then, refl, sym, ap}
-use Rattle.std.proofs.Common.{subst, ◌∙◌, arith, append_assoc, append-nil, encode_utf8, String, string_bytes}
+use Rattle.std.proofs.Common.{◌≡◌, ◌≤◌, ◌&&◌, ◌||◌, [], ◌∷◌, ◌++◌, ◌∙◌, Bool, IfSome, List, None, Option, Some, String}
+use Rattle.std.proofs.Common.{ap, append-nil, append_assoc, arith, cond, drop, encode_utf8, eqb, false, length, not}
+use Rattle.std.proofs.Common.{option_and_then, option_map, refl, string_bytes, subst, suc, sym, true, zero, ℕ}
 use Rattle.std.proofs.lemmas.Bool.{cond-true, cond-false, cond_both}
 use Rattle.std.proofs.lemmas.Option.{none-some, cond_some}
 use Rattle.std.proofs.lemmas.Str.{chars-append, IsUtf8-string_bytes}
@@ -11,7 +11,7 @@ use Rattle.std.specs.FinMap as finite
 use Rattle.lex_base.specs.References.{References}
 use Rattle.token_grammar.proofs.MarkLemmas.{chars-encode}
 use Rattle.token_grammar.specs.Characters.{is_alphanumeric, is_digit, shown}
-use Rattle.token_grammar.specs.References.{Found, behind_number_sign, named, named_from, numeric, reference}
+use Rattle.token_grammar.specs.References.{Found, after_number_sign, named, named_from, numeric, reference}
 use Rattle.token_grammar.specs.References.{reference_in_value, value_from, value_of}
 use Rattle.token_grammar.specs.Slices.{after, begins, first_passes, front_while, rest_while}
 use Rattle.std.specs.Str.{chars}
@@ -36,16 +36,16 @@ no_sign : (cs : List ℕ) → None ≡ after (chars (35 ∷ [])) cs → begins (
 no_sign cs e = none_by (begins (35 ∷ []) cs) (drop 1 cs) (e ∙ ap (λ m. after m cs) chars-sign)
 
 pub sign_in_text : (table : References) (cs rest : List ℕ) → Some rest ≡ after (chars (35 ∷ [])) cs →
-    behind_number_sign rest ≡ reference table cs
+    after_number_sign rest ≡ reference table cs
 sign_in_text table cs rest e =
     let stands = sign_stands cs rest e in
-    ap behind_number_sign (sym stands.1) ∙ sym (cond-true (begins (35 ∷ []) cs) _ _ stands.0)
+    ap after_number_sign (sym stands.1) ∙ sym (cond-true (begins (35 ∷ []) cs) _ _ stands.0)
 
 pub sign_in_value : (table : References) (cs rest : List ℕ) → Some rest ≡ after (chars (35 ∷ [])) cs →
-    behind_number_sign rest ≡ reference_in_value table cs
+    after_number_sign rest ≡ reference_in_value table cs
 sign_in_value table cs rest e =
     let stands = sign_stands cs rest e in
-    ap behind_number_sign (sym stands.1) ∙ sym (cond-true (begins (35 ∷ []) cs) _ _ stands.0)
+    ap after_number_sign (sym stands.1) ∙ sym (cond-true (begins (35 ∷ []) cs) _ _ stands.0)
 
 pub name_in_text : (table : References) (cs : List ℕ) → None ≡ after (chars (35 ∷ [])) cs →
     named table cs ≡ reference table cs
@@ -141,7 +141,7 @@ number_within base cs =
 drop_within : (cs : List ℕ) → length (drop 1 cs) ≤ length cs
 drop_within cs = dropped_within true cs
 
-sign_within : (cs : List ℕ) → EndsWithin (length cs) (behind_number_sign cs)
+sign_within : (cs : List ℕ) → EndsWithin (length cs) (after_number_sign cs)
 sign_within cs =
     within_both (length cs) (first_passes (λ c. eqb c 120 || eqb c 88) cs) (numeric 16 (drop 1 cs)) (numeric 10 cs)
     (within_more (length (drop 1 cs)) (length cs) (numeric 16 (drop 1 cs)) (drop_within cs)
@@ -154,19 +154,19 @@ kept_within n (Some f) p = within_both n (not f.closed && first_passes goes_on f
 
 pub within_value : (table : References) (cs : List ℕ) → EndsWithin (length cs) (reference_in_value table cs)
 within_value table cs =
-    within_both (length cs) (begins (35 ∷ []) cs) (behind_number_sign (drop 1 cs))
+    within_both (length cs) (begins (35 ∷ []) cs) (after_number_sign (drop 1 cs))
     (option_and_then kept (named table cs))
-    (within_more (length (drop 1 cs)) (length cs) (behind_number_sign (drop 1 cs)) (drop_within cs)
+    (within_more (length (drop 1 cs)) (length cs) (after_number_sign (drop 1 cs)) (drop_within cs)
     (sign_within (drop 1 cs)))
     (kept_within (length cs) (named table cs) (name_within table [] cs))
 
 -- ---- the value
 
 -- what stands after a character of a value
-abbrev pub behind_character : References → ℕ → List ℕ → Option Found
-behind_character table c cs = cond (eqb c 38) (reference_in_value table cs) None
+abbrev pub after_character : References → ℕ → List ℕ → Option Found
+after_character table c cs = cond (eqb c 38) (reference_in_value table cs) None
 
-within_character : (table : References) (c : ℕ) (cs : List ℕ) → EndsWithin (length cs) (behind_character table c cs)
+within_character : (table : References) (c : ℕ) (cs : List ℕ) → EndsWithin (length cs) (after_character table c cs)
 within_character table c cs =
     within_both (length cs) (eqb c 38) (reference_in_value table cs) None (within_value table cs) tt
 
@@ -177,12 +177,12 @@ record Step (table : References) (n : ℕ) (cs rest piece : List ℕ) : Type 0 w
   reads : value_from table n cs ≡ piece ++ value_from table less rest
 
 step_character : (table : References) (n c : ℕ) (cs : List ℕ) → suc (length cs) ≤ n →
-    None ≡ behind_character table c cs → Step table n (c ∷ cs) cs (shown c ∷ [])
+    None ≡ after_character table c cs → Step table n (c ∷ cs) cs (shown c ∷ [])
 step_character table zero c cs le e = absurd (omega arith)
 step_character table (suc n) c cs le e = record { less = n; enough = omega arith; reads = rw (sym e) refl }
 
 step_found : (table : References) (n c : ℕ) (cs : List ℕ) (found : Found) → suc (length cs) ≤ n →
-    Some found ≡ behind_character table c cs → Step table n (c ∷ cs) found.rest found.characters
+    Some found ≡ after_character table c cs → Step table n (c ∷ cs) found.rest found.characters
 step_found table zero c cs found le e = absurd (omega arith)
 step_found table (suc n) c cs found le e =
     let short : length found.rest ≤ length cs = subst (EndsWithin (length cs)) (sym e) (within_character table c cs) in
@@ -223,19 +223,19 @@ module _ (table : References) (text value rest : List ℕ) (c : ℕ) (cs : List 
   fits : suc (length cs) ≤ h.steps
   fits = omega (arith, h.enough, ap length e)
 
-  pub valuing_character : (new : List ℕ) → None ≡ behind_character table c cs → new ≡ value ++ shown c ∷ [] →
+  pub valuing_character : (new : List ℕ) → None ≡ after_character table c cs → new ≡ value ++ shown c ∷ [] →
       IsValuing table text new cs
   valuing_character new none is =
       valuing_on table text value rest (c ∷ cs) cs (shown c ∷ []) new h e
       (step_character table h.steps c cs fits none) is
 
-  pub valuing_found : (new : List ℕ) (found : Found) → Some found ≡ behind_character table c cs →
+  pub valuing_found : (new : List ℕ) (found : Found) → Some found ≡ after_character table c cs →
       new ≡ value ++ found.characters → IsValuing table text new found.rest
   valuing_found new found some is =
       valuing_on table text value rest (c ∷ cs) found.rest found.characters new h e
       (step_found table h.steps c cs found fits some) is
 
-  pub shorter_found : (found : Found) → Some found ≡ behind_character table c cs → suc (length found.rest) ≤ length rest
+  pub shorter_found : (found : Found) → Some found ≡ after_character table c cs → suc (length found.rest) ≤ length rest
   shorter_found found some =
       let short : length found.rest ≤ length cs =
       subst (EndsWithin (length cs)) (sym some) (within_character table c cs) in

@@ -1,9 +1,9 @@
 -- Classes of characters that slices are made of.
 use Rattle.std.specs.Prelude.{ℕ, Bool, not, ◌==◌, ◌||◌}
 use Rattle.token_grammar.specs.declared.slices.CharacterClass.{CharacterClass}
-use Rattle.token_grammar.specs.declared.slices.CharacterClass.TheVariants.{Space, Gap, Letter, DecimalDigit}
-use Rattle.token_grammar.specs.declared.slices.CharacterClass.TheVariants.{HexadecimalDigit, TagName, AttributeName}
-use Rattle.token_grammar.specs.declared.slices.CharacterClass.TheVariants.{Unquoted, Lowered, Identifier}
+use Rattle.token_grammar.specs.declared.slices.CharacterClass.TheVariants.{AttributeName, DecimalDigit, Gap}
+use Rattle.token_grammar.specs.declared.slices.CharacterClass.TheVariants.{HexadecimalDigit, Identifier, Letter}
+use Rattle.token_grammar.specs.declared.slices.CharacterClass.TheVariants.{Lowered, Space, TagName, Unquoted}
 use Rattle.token_grammar.specs.Characters.{is_between, is_digit, is_letter, is_space}
 use Rattle.token_grammar.specs.Doctypes.{ends_identifier}
 use Rattle.token_grammar.specs.Tags.{ends_attribute_name, ends_tag_name, ends_unquoted, is_gap}

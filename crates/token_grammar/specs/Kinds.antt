@@ -4,9 +4,9 @@ use Rattle.html_lexemes.specs.declared.token.Tag.{Tag}
 use Rattle.html_lexemes.specs.declared.token.TagKind.{TagKind}
 use Rattle.html_lexemes.specs.declared.token.TagKind.TheVariants.{StartTag, EndTag}
 use Rattle.token_grammar.specs.Items.{Item, characters, null_character, tag, comment, doctype, error, end_of_file}
-use Rattle.token_grammar.specs.Lexemes.{Lexeme, nothing, told, tagged}
+use Rattle.token_grammar.specs.Lexemes.{Lexeme, nothing, emitted, tagged}
 use Rattle.token_grammar.specs.Meaning.{Meaning}
-use Rattle.token_grammar.specs.Modes.{text_behind}
+use Rattle.token_grammar.specs.Modes.{text_after}
 use Rattle.token_grammar.specs.declared.modes.TextKind.{TextKind}
 use Rattle.token_grammar.specs.declared.modes.TextKind.TheVariants.{Ordinary, Plain, Raw}
 
@@ -47,7 +47,7 @@ AreWithin kind (item ∷ items) = (IsWithin item × IsOf kind item) × AreWithin
 -- A lexeme is of a kind of text, and but for a tag nothing leads out of it.
 abbrev pub LexemeOf : TextKind → Lexeme → Type 0
 LexemeOf kind nothing = Unit {0}
-LexemeOf kind (told items behind rest) = AreWithin kind items × (HasMarkup behind.text → HasMarkup kind)
+LexemeOf kind (emitted items trailing rest) = AreWithin kind items × (HasMarkup trailing.text → HasMarkup kind)
 LexemeOf kind (tagged t rest) = IsOf kind (tag t)
 
 -- What a sink that welcomes an item keeps to: what it welcomes beside an item, it welcomes after it; and after a tag
@@ -56,7 +56,7 @@ pub record IsHearing {A H : Type 0} (means : Meaning A H) (welcomes : A → Item
   pub goes_on : (state : A) (item later : Item) → IsWithin item → welcomes state item → welcomes state later →
       welcomes (means.step state item) later
   pub asks : (state : A) (t : Tag) (later : Item) → welcomes state (tag t) →
-      IsOf (text_behind (means.reply state (tag t))) later → welcomes (means.step state (tag t)) later
+      IsOf (text_after (means.reply state (tag t))) later → welcomes (means.step state (tag t)) later
 
 -- A sink is ready, and welcomes all that is emitted in a kind of text.
 pub record IsReadyFor {A : Type 0} (ready : A → Type 0) (welcomes : A → Item → Type 0) (kind : TextKind)

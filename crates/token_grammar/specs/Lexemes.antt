@@ -1,6 +1,6 @@
 -- The grammar of a page's text (WHATWG HTML, 13.2.5): what stands first in a text, by slices of it.
-use Rattle.std.specs.Prelude.{ℕ, Bool, true, false, ◌==◌, ◌&&◌, nat_lt, if◌then◌else◌, List, [], ◌∷◌, ◌++◌, length, map}
-use Rattle.std.specs.Prelude.{drop, codes, Option, Some, None}
+use Rattle.std.specs.Prelude.{◌==◌, ◌&&◌, if◌then◌else◌, [], ◌∷◌, ◌++◌, Bool, List, None, Option, Some, codes, drop}
+use Rattle.std.specs.Prelude.{false, length, map, nat_lt, true, ℕ}
 use Rattle.std.specs.Str.{bytes_eq}
 use Rattle.lex_base.specs.References.{References}
 use Rattle.html_lexemes.specs.declared.states.RawKind.{RawKind}
@@ -24,11 +24,11 @@ use Rattle.token_grammar.specs.Tags.{ends_tag_name, tag_at}
 -- sink chooses that mode
 pub data Lexeme : Type 0 where
   nothing : Lexeme
-  told : List Item → Mode → List ℕ → Lexeme
+  emitted : List Item → Mode → List ℕ → Lexeme
   tagged : Tag → List ℕ → Lexeme
 
 abbrev pub one_character : Mode → ℕ → List ℕ → Lexeme
-one_character mode c rest = told (characters (c ∷ []) ∷ []) mode rest
+one_character mode c rest = emitted (characters (c ∷ []) ∷ []) mode rest
 
 -- Ordinary text (13.2.5.1): a NUL is an item of its own.
 abbrev pub ordinary_item : ℕ → Item
@@ -43,29 +43,29 @@ error_unless false = error ∷ []
 abbrev pub reference_lexeme : Mode → List ℕ → Option Found → Lexeme
 reference_lexeme mode cs None = one_character mode 38 cs
 reference_lexeme mode cs (Some found) =
-    told (error_unless found.closed ++ characters found.characters ∷ []) mode found.rest
+    emitted (error_unless found.closed ++ characters found.characters ∷ []) mode found.rest
 
 abbrev pub tag_lexeme : Option (Tag × List ℕ) → Lexeme
 tag_lexeme None = nothing
 tag_lexeme (Some read) = tagged read.0 read.1
 
 abbrev pub comment_lexeme : Mode → Cut → Lexeme
-comment_lexeme mode cut = told (comment (shown_text cut.slice) ∷ []) mode cut.rest
+comment_lexeme mode cut = emitted (comment (shown_text cut.slice) ∷ []) mode cut.rest
 
 abbrev pub doctype_lexeme : Mode → DoctypeEnd → Lexeme
-doctype_lexeme mode end = told (doctype end.doctype ∷ []) mode end.rest
+doctype_lexeme mode end = emitted (doctype end.doctype ∷ []) mode end.rest
 
 -- Text up to `]]>` or the end (13.2.5.69).
 abbrev pub cdata_lexeme : Mode → Cut → Lexeme
-cdata_lexeme mode cut = told (map ordinary_item cut.slice) mode cut.rest
+cdata_lexeme mode cut = emitted (map ordinary_item cut.slice) mode cut.rest
 
 -- after `</` (13.2.5.7): a letter opens a tag, `>` ends nothing, another character opens a bogus comment; at the end
 -- `<` is text
-abbrev pub behind_slash : References → Mode → List ℕ → Lexeme
-behind_slash table mode [] = one_character mode 60 (codes "/")
-behind_slash table mode (c ∷ cs) =
+abbrev pub after_slash : References → Mode → List ℕ → Lexeme
+after_slash table mode [] = one_character mode 60 (codes "/")
+after_slash table mode (c ∷ cs) =
     if is_letter c then tag_lexeme (tag_at table EndTag (c ∷ cs))
-    else (if c == 62 then told (error ∷ []) mode cs else comment_lexeme mode (bogus_comment_slice (c ∷ cs)))
+    else (if c == 62 then emitted (error ∷ []) mode cs else comment_lexeme mode (bogus_comment_slice (c ∷ cs)))
 
 -- after `<!` (13.2.5.42)
 abbrev pub declaration : Bool → Mode → List ℕ → Lexeme
@@ -81,14 +81,14 @@ abbrev pub markup : References → Bool → Mode → List ℕ → Lexeme
 markup table foreign mode [] = one_character mode 60 []
 markup table foreign mode (c ∷ cs) =
     if is_letter c then tag_lexeme (tag_at table StartTag (c ∷ cs))
-    else (if c == 47 then behind_slash table mode cs
+    else (if c == 47 then after_slash table mode cs
     else (if c == 33 then declaration foreign mode cs
     else (if c == 63 then comment_lexeme mode (bogus_comment_slice (c ∷ cs)) else one_character mode 60 (c ∷ cs))))
 
 abbrev pub ordinary_lexeme : References → Bool → Mode → ℕ → List ℕ → Lexeme
 ordinary_lexeme table foreign mode c cs =
     if c == 60 then markup table foreign mode cs
-    else (if c == 38 then reference_lexeme mode cs (reference table cs) else told (ordinary_item c ∷ []) mode cs)
+    else (if c == 38 then reference_lexeme mode cs (reference table cs) else emitted (ordinary_item c ∷ []) mode cs)
 
 -- the end tag of an element's text, after `<`: `/`, letters that are the last start tag's name, and the end of a name
 -- (13.2.5.11)
@@ -109,14 +109,14 @@ ends_raw_text last cs =
 abbrev pub begins_tag : List ℕ → List ℕ → Bool
 begins_tag word cs = begins_word word cs && first_passes ends_tag_name (drop (length word) cs)
 
-abbrev pub kind_behind : RawKind → List ℕ → RawKind
-kind_behind Rcdata cs = Rcdata
-kind_behind Rawtext cs = Rawtext
-kind_behind ScriptData cs = if begins (codes "<!--") cs then ScriptDataEscaped Escaped else ScriptData
-kind_behind (ScriptDataEscaped Escaped) cs =
+abbrev pub kind_after : RawKind → List ℕ → RawKind
+kind_after Rcdata cs = Rcdata
+kind_after Rawtext cs = Rawtext
+kind_after ScriptData cs = if begins (codes "<!--") cs then ScriptDataEscaped Escaped else ScriptData
+kind_after (ScriptDataEscaped Escaped) cs =
     if begins (codes "-->") cs then ScriptData
     else (if begins_tag (codes "<script") cs then ScriptDataEscaped DoubleEscaped else ScriptDataEscaped Escaped)
-kind_behind (ScriptDataEscaped DoubleEscaped) cs =
+kind_after (ScriptDataEscaped DoubleEscaped) cs =
     if begins (codes "-->") cs then ScriptData
     else (if begins_tag (codes "</script") cs then ScriptDataEscaped Escaped else ScriptDataEscaped DoubleEscaped)
 
@@ -141,7 +141,7 @@ raw_lexeme table kind mode c cs =
     if c == 60 && has_end_tags kind && ends_raw_text mode.last_start_tag cs then
     tag_lexeme (tag_at table EndTag (drop 1 cs))
     else (if c == 38 && has_references kind then reference_lexeme mode cs (reference table cs)
-    else one_character (in_kind mode (kind_behind kind (c ∷ cs))) (shown c) cs)
+    else one_character (in_kind mode (kind_after kind (c ∷ cs))) (shown c) cs)
 
 abbrev pub lexeme_in : References → Bool → TextKind → Mode → ℕ → List ℕ → Lexeme
 lexeme_in table foreign Ordinary mode c cs = ordinary_lexeme table foreign mode c cs

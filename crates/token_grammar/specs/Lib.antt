@@ -18,4 +18,4 @@ pub mod Slices
 pub mod TagLaws
 pub mod TagParts
 pub mod Tags
-pub mod Told
+pub mod Emitted

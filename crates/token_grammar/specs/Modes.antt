@@ -10,16 +10,16 @@ use Rattle.html_lexemes.specs.declared.token.Tag.{Tag}
 use Rattle.html_lexemes.specs.declared.token.TagKind.{TagKind}
 use Rattle.html_lexemes.specs.declared.token.TagKind.TheVariants.{StartTag, EndTag}
 use Rattle.html_lexemes.specs.declared.token.TokenSinkResult.{TokenSinkResult}
-use Rattle.html_lexemes.specs.declared.token.TokenSinkResult.TheVariants.{Continue, Script, Plaintext, RawData}
-use Rattle.html_lexemes.specs.declared.token.TokenSinkResult.TheVariants.{EncodingIndicator}
+use Rattle.html_lexemes.specs.declared.token.TokenSinkResult.TheVariants.{Continue, EncodingIndicator, Plaintext}
+use Rattle.html_lexemes.specs.declared.token.TokenSinkResult.TheVariants.{RawData, Script}
 
 -- what a sink asks for by its answer to a tag
-abbrev pub text_behind : {H : Type 0} → TokenSinkResult H → TextKind
-text_behind Continue = Ordinary
-text_behind (Script handle) = Ordinary
-text_behind Plaintext = Plain
-text_behind (RawData kind) = Raw kind
-text_behind (EncodingIndicator encoding) = Ordinary
+abbrev pub text_after : {H : Type 0} → TokenSinkResult H → TextKind
+text_after Continue = Ordinary
+text_after (Script handle) = Ordinary
+text_after Plaintext = Plain
+text_after (RawData kind) = Raw kind
+text_after (EncodingIndicator encoding) = Ordinary
 
 -- The answer asks for a pause: what follows the tag's `>` is read later.
 abbrev pub is_pause : {H : Type 0} → TokenSinkResult H → Bool
@@ -29,14 +29,14 @@ is_pause Continue = false
 is_pause Plaintext = false
 is_pause (RawData kind) = false
 
-abbrev pub last_behind : TagKind → List ℕ → Option (List ℕ) → Option (List ℕ)
-last_behind StartTag name last = Some name
-last_behind EndTag name last = last
+abbrev pub last_after : TagKind → List ℕ → Option (List ℕ) → Option (List ℕ)
+last_after StartTag name last = Some name
+last_after EndTag name last = last
 
 -- the mode after a tag
-abbrev pub mode_behind : {H : Type 0} → Mode → Tag → TokenSinkResult H → Mode
-mode_behind mode t answer =
-    record { text = text_behind answer; last_start_tag = last_behind t.kind t.name mode.last_start_tag }
+abbrev pub next_mode : {H : Type 0} → Mode → Tag → TokenSinkResult H → Mode
+next_mode mode t answer =
+    record { text = text_after answer; last_start_tag = last_after t.kind t.name mode.last_start_tag }
 
 -- the kind of text in which a page begins: plain or an element's where a state of such text is named, else ordinary
 abbrev pub text_of_state : Option State → TextKind

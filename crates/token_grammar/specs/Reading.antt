@@ -4,9 +4,9 @@ use Rattle.std.specs.Prelude.{◌≡◌, ℕ, List, [], ◌∷◌, ◌++◌, fol
 use Rattle.lex_base.specs.References.{References}
 use Rattle.html_lexemes.specs.declared.token.TokenSinkResult.TheVariants.{Continue}
 use Rattle.token_grammar.specs.Items.{Item, characters, null_character, tag, comment, doctype, error, end_of_file}
-use Rattle.token_grammar.specs.Lexemes.{lexeme, nothing, told, tagged}
+use Rattle.token_grammar.specs.Lexemes.{lexeme, nothing, emitted, tagged}
 use Rattle.token_grammar.specs.Meaning.{Meaning}
-use Rattle.token_grammar.specs.Modes.{mode_behind}
+use Rattle.token_grammar.specs.Modes.{next_mode}
 use Rattle.token_grammar.specs.declared.modes.Mode.{Mode}
 use Rattle.html_lexemes.specs.declared.token.Tag.{Tag}
 
@@ -15,13 +15,13 @@ pub data Reading {A H : Type 0} (table : References) (means : Meaning A H) : Mod
   ends : (mode : Mode) (state : A) (cs : List ℕ) (final : A) →
       lexeme table (means.foreign state) mode cs ≡ nothing → final ≡ means.step state end_of_file →
       Reading table means mode state cs final
-  goes : (mode : Mode) (state : A) (cs : List ℕ) (items : List Item) (behind : Mode) (rest : List ℕ) (final : A) →
-      lexeme table (means.foreign state) mode cs ≡ told items behind rest →
-      Reading table means behind (fold means.step state items) rest final →
+  goes : (mode : Mode) (state : A) (cs : List ℕ) (items : List Item) (trailing : Mode) (rest : List ℕ) (final : A) →
+      lexeme table (means.foreign state) mode cs ≡ emitted items trailing rest →
+      Reading table means trailing (fold means.step state items) rest final →
       Reading table means mode state cs final
   tags : (mode : Mode) (state : A) (cs : List ℕ) (t : Tag) (rest : List ℕ) (final : A) →
       lexeme table (means.foreign state) mode cs ≡ tagged t rest →
-      Reading table means (mode_behind mode t (means.reply state (tag t))) (means.step state (tag t)) rest final →
+      Reading table means (next_mode mode t (means.reply state (tag t))) (means.step state (tag t)) rest final →
       Reading table means mode state cs final
 
 -- An error matters to text that begins with a LF, and to an empty text, which changes nothing by itself.

@@ -1,6 +1,6 @@
 -- Character references (WHATWG HTML, 13.2.5.72 to 13.2.5.80).
-use Rattle.std.specs.Prelude.{ℕ, zero, suc, ◌+◌, ◌*◌, Bool, ◌==◌, ◌&&◌, ◌||◌, not, nat_lt, if◌then◌else◌, List, [], ◌∷◌}
-use Rattle.std.specs.Prelude.{◌++◌, length, drop, Option, Some, None, option_map, option_and_then, fold}
+use Rattle.std.specs.Prelude.{◌+◌, ◌*◌, ◌==◌, ◌&&◌, ◌||◌, if◌then◌else◌, [], ◌∷◌, ◌++◌, Bool, List, None, Option, Some}
+use Rattle.std.specs.Prelude.{drop, fold, length, nat_lt, not, option_and_then, option_map, suc, zero, ℕ}
 use Rattle.std.specs.Option.{option_or}
 use Rattle.std.specs.List.{list_any}
 use Rattle.std.specs.Char.{digit_value}
@@ -69,12 +69,12 @@ numeric base cs = numeric_of base (front_while (is_digit base) cs) (rest_while (
 abbrev pub is_x : ℕ → Bool
 is_x c = c == 120 || c == 88
 
-abbrev pub behind_number_sign : List ℕ → Option Found
-behind_number_sign cs = if first_passes is_x cs then numeric 16 (drop 1 cs) else numeric 10 cs
+abbrev pub after_number_sign : List ℕ → Option Found
+after_number_sign cs = if first_passes is_x cs then numeric 16 (drop 1 cs) else numeric 10 cs
 
 -- The reference that stands after a `&`, if there is one: a number after `#`, else the longest name that follows.
 abbrev pub reference : References → List ℕ → Option Found
-reference table cs = if begins (35 ∷ []) cs then behind_number_sign (drop 1 cs) else named table cs
+reference table cs = if begins (35 ∷ []) cs then after_number_sign (drop 1 cs) else named table cs
 
 -- In an attribute's value a name without its semicolon, before `=` or a letter or digit, is no reference.
 abbrev pub goes_on : ℕ → Bool
@@ -84,7 +84,7 @@ abbrev pub kept_in_value : Found → Option Found
 kept_in_value found = if not found.closed && first_passes goes_on found.rest then None else Some found
 
 abbrev pub reference_in_value : References → List ℕ → Option Found
-reference_in_value table cs = if begins (35 ∷ []) cs then behind_number_sign (drop 1 cs)
+reference_in_value table cs = if begins (35 ∷ []) cs then after_number_sign (drop 1 cs)
     else option_and_then kept_in_value (named table cs)
 
 -- An attribute's value: its references read, and NUL shown. The number is at least the text's length.

@@ -1,6 +1,6 @@
 -- Slices of a text.
-use Rattle.std.specs.Prelude.{◌≡◌, ℕ, ◌<◌, Bool, true, false, ◌==◌, ◌&&◌, if◌then◌else◌, List, [], ◌∷◌, ◌++◌, length}
-use Rattle.std.specs.Prelude.{drop, Option, Some, None, option_map}
+use Rattle.std.specs.Prelude.{◌≡◌, ◌<◌, ◌==◌, ◌&&◌, if◌then◌else◌, [], ◌∷◌, ◌++◌, Bool, List, None, Option, Some, drop}
+use Rattle.std.specs.Prelude.{false, length, option_map, true, ℕ}
 use Rattle.std.specs.Char.{to_ascii_lowercase}
 
 -- the longest front of a text whose characters all pass, and what follows it

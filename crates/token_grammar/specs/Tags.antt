@@ -1,6 +1,6 @@
 -- Tags and their attributes (WHATWG HTML, 13.2.5.8 and 13.2.5.32 to 13.2.5.40).
-use Rattle.std.specs.Prelude.{ℕ, zero, suc, Bool, false, ◌==◌, ◌||◌, not, if◌then◌else◌, List, [], ◌∷◌, ◌++◌, length}
-use Rattle.std.specs.Prelude.{drop, Option, Some, None, option_map, option_and_then}
+use Rattle.std.specs.Prelude.{◌==◌, ◌||◌, if◌then◌else◌, [], ◌∷◌, ◌++◌, Bool, List, None, Option, Some, drop, false}
+use Rattle.std.specs.Prelude.{length, not, option_and_then, option_map, suc, zero, ℕ}
 use Rattle.std.specs.List.{list_any}
 use Rattle.std.specs.Str.{bytes_eq}
 use Rattle.lex_base.specs.References.{References}
@@ -50,8 +50,8 @@ written_value (c ∷ cs) =
     })
 
 -- after an attribute's name, over spaces, an optional `=` and, over spaces, a value
-abbrev pub value_behind : List ℕ → Option Cut
-value_behind cs =
+abbrev pub value_after : List ℕ → Option Cut
+value_after cs =
     if begins (equals ∷ []) (without_spaces cs)
     then written_value (without_spaces (drop 1 (without_spaces cs)))
     else Some (record { slice = []; rest = cs })
@@ -68,7 +68,7 @@ attribute_at table c cs =
       attribute (name_of (c ∷ front_while (λ d. not (ends_attribute_name d)) cs)) (value_of table value.slice),
       value.rest,
     ))
-    (value_behind (rest_while (λ d. not (ends_attribute_name d)) cs))
+    (value_after (rest_while (λ d. not (ends_attribute_name d)) cs))
 
 -- what stands after a tag's name: its attributes as they are written, whether `/` stands directly before its `>`, and
 -- what follows
@@ -87,9 +87,9 @@ ends_with_slash (c ∷ cs) = if length cs == 0 then c == slash else ends_with_sl
 
 -- Over a gap, the end of the tag or an attribute: none where the text ends in the tag. The number is more than the
 -- text's length.
-abbrev pub behind_gap : References → Bool → List ℕ → (List ℕ → Option TagEnd) → Option TagEnd
-behind_gap table closes [] further = None
-behind_gap table closes (c ∷ cs) further =
+abbrev pub after_gap : References → Bool → List ℕ → (List ℕ → Option TagEnd) → Option TagEnd
+after_gap table closes [] further = None
+after_gap table closes (c ∷ cs) further =
     if c == greater
     then Some (record { attributes = []; self_closing = closes; rest = cs })
     else option_and_then (λ read. option_map (with_attribute read.0) (further read.1)) (attribute_at table c cs)
@@ -97,7 +97,7 @@ behind_gap table closes (c ∷ cs) further =
 abbrev pub tag_end_from : References → ℕ → List ℕ → Option TagEnd
 tag_end_from table zero cs = None
 tag_end_from table (suc n) cs =
-    behind_gap table (ends_with_slash (front_while is_gap cs)) (rest_while is_gap cs) (tag_end_from table n)
+    after_gap table (ends_with_slash (front_while is_gap cs)) (rest_while is_gap cs) (tag_end_from table n)
 
 abbrev pub tag_end : References → List ℕ → Option TagEnd
 tag_end table cs = tag_end_from table (suc (length cs)) cs

@@ -7,7 +7,7 @@ ghost use Rattle.token_grammar.specs.Read.{cut_of};
 ghost use Rattle.token_grammar.specs.Slices.{cut};
 
 use crate::characters::shown_character;
-use crate::slices::{behind, cut_at_character, first_and_rest};
+use crate::slices::{cut_at_character, first_and_rest, trailing};
 use html_lexemes::Text;
 use std::alloc::{AllocError, Global};
 
@@ -17,7 +17,7 @@ pub fn comment_slice(text: &str) -> (&str, &str)
     ensures slice_utf8 { IsUtf8 result.0.now }
     ensures rest_utf8 { IsUtf8 result.1.now }
 {
-    if let Some(rest) = behind(text, ">").or(behind(text, "->")) {
+    if let Some(rest) = trailing(text, ">").or(trailing(text, "->")) {
         return ("", rest);
     }
     match cut_at_mark(text) {
@@ -42,22 +42,22 @@ fn cut_at_mark(text: &str) -> Option<(&str, &str)>
     ensures rest_utf8 { IfSome result (λ r. IsUtf8 r.1.now) }
 {
     let mut marked = text;
-    'cut: while let Some((_, behind_first)) = first_and_rest(marked) {
-        if let Some(rest) = behind_mark(marked) {
+    'cut: while let Some((_, after_first)) = first_and_rest(marked) {
+        if let Some(rest) = after_mark(marked) {
             let (slice, _) = text.split_at(text.len() - marked.len());
             return Some((slice, rest));
         }
-        marked = behind_first;
+        marked = after_first;
     }
     None
 }
 
 // what follows an end mark, where a text begins with one
-fn behind_mark(text: &str) -> Option<&str>
+fn after_mark(text: &str) -> Option<&str>
     ensures value { option_map (λ rest. chars rest.now) result ≡ comment_mark (chars text.now) }
     ensures utf8 { IfSome result (λ rest. IsUtf8 rest.now) }
 {
-    behind(text, "-->").or(behind(text, "--!>"))
+    trailing(text, "-->").or(trailing(text, "--!>"))
 }
 
 // a comment that the end cuts off, without an end mark that has begun

@@ -1,12 +1,12 @@
 ghost use Rattle.std.specs.Prelude.{◌≡◌, ◌∷◌, [], chars, option_map, false, true, IfOk, IfSome, MatchOption};
 ghost use Rattle.std.specs.Str.{IsUtf8};
-ghost use Rattle.token_grammar.specs.Doctypes.{behind_keyword, behind_public, behind_system, doctype_at, ends_here};
+ghost use Rattle.token_grammar.specs.Doctypes.{after_keyword, after_public, after_system, doctype_at, ends_here};
 ghost use Rattle.token_grammar.specs.Doctypes.{is_quote, public_at, skipped, system_at, with_quirks};
 ghost use Rattle.token_grammar.specs.Read.{doctype_and_rest};
 ghost use Rattle.token_grammar.specs.Slices.{after, first_passes};
 
 use crate::comments::{bogus_comment_slice, shown};
-use crate::slices::{CharacterClass, behind, behind_word, first_and_rest, skip, split_while};
+use crate::slices::{CharacterClass, first_and_rest, rest_after_word, skip, split_while, trailing};
 use crate::tags::name_of;
 use html_lexemes::Doctype;
 use std::alloc::{AllocError, Global};
@@ -28,37 +28,33 @@ pub fn doctype_at(alloc: Global, text: &str) -> Result<(Doctype, &str), AllocErr
         return Ok(cut_short(doctype, rest));
     }
     doctype.name = Some(name_of(alloc, name)?);
-    behind_keyword(alloc, doctype, skip(rest, CharacterClass::Space))
+    after_keyword(alloc, doctype, skip(rest, CharacterClass::Space))
 }
 
 // what stands after a name, over spaces
-fn behind_keyword(
-    alloc: Global,
-    doctype: Doctype,
-    text: &str,
-) -> Result<(Doctype, &str), AllocError>
-    ensures value { IfOk result (λ read. doctype_and_rest read ≡ behind_keyword doctype (chars text.now)) }
+fn after_keyword(alloc: Global, doctype: Doctype, text: &str) -> Result<(Doctype, &str), AllocError>
+    ensures value { IfOk result (λ read. doctype_and_rest read ≡ after_keyword doctype (chars text.now)) }
     ensures utf8 { IfOk result (λ read. IsUtf8 read.1.now) }
 {
-    if let Some(rest) = behind_word(text, "public") {
-        return behind_public(alloc, doctype, skip(rest, CharacterClass::Space));
+    if let Some(rest) = rest_after_word(text, "public") {
+        return after_public(alloc, doctype, skip(rest, CharacterClass::Space));
     }
-    let Some(rest) = behind_word(text, "system") else {
+    let Some(rest) = rest_after_word(text, "system") else {
         return Ok(ends_here(doctype, text));
     };
     let rest = skip(rest, CharacterClass::Space);
-    match behind_opening_quote(rest) {
+    match after_opening_quote(rest) {
         Some((quote, identifier)) => system_at(alloc, doctype, quote, identifier),
         None => Ok(cut_short(doctype, rest)),
     }
 }
 
 // a public identifier, and perhaps a system identifier after it
-fn behind_public(alloc: Global, doctype: Doctype, text: &str) -> Result<(Doctype, &str), AllocError>
-    ensures value { IfOk result (λ read. doctype_and_rest read ≡ behind_public doctype (chars text.now)) }
+fn after_public(alloc: Global, doctype: Doctype, text: &str) -> Result<(Doctype, &str), AllocError>
+    ensures value { IfOk result (λ read. doctype_and_rest read ≡ after_public doctype (chars text.now)) }
     ensures utf8 { IfOk result (λ read. IsUtf8 read.1.now) }
 {
-    match behind_opening_quote(text) {
+    match after_opening_quote(text) {
         Some((quote, identifier)) => public_at(alloc, doctype, quote, identifier),
         None => Ok(cut_short(doctype, text)),
     }
@@ -76,11 +72,11 @@ fn public_at(
 {
     let (identifier, rest) = split_while(text, CharacterClass::Identifier(quote));
     doctype.public_id = Some(shown(alloc, identifier)?);
-    let Some(rest) = behind_closing_quote(rest, quote) else {
+    let Some(rest) = after_closing_quote(rest, quote) else {
         return Ok(cut_short(doctype, rest));
     };
     let rest = skip(rest, CharacterClass::Space);
-    match behind_opening_quote(rest) {
+    match after_opening_quote(rest) {
         Some((quote, identifier)) => system_at(alloc, doctype, quote, identifier),
         None => Ok(ends_here(doctype, rest)),
     }
@@ -98,14 +94,14 @@ fn system_at(
 {
     let (identifier, rest) = split_while(text, CharacterClass::Identifier(quote));
     doctype.system_id = Some(shown(alloc, identifier)?);
-    match behind_closing_quote(rest, quote) {
-        Some(rest) => Ok(behind_system(doctype, skip(rest, CharacterClass::Space))),
+    match after_closing_quote(rest, quote) {
+        Some(rest) => Ok(after_system(doctype, skip(rest, CharacterClass::Space))),
         None => Ok(cut_short(doctype, rest)),
     }
 }
 
 // the quote that a text begins with, and what follows it
-fn behind_opening_quote(text: &str) -> Option<(char, &str)>
+fn after_opening_quote(text: &str) -> Option<(char, &str)>
     ensures value { MatchOption result (first_passes is_quote (chars text.now) ≡ false)
         (λ r. (chars text.now ≡ r.0 ∷ chars r.1.now) × (is_quote r.0 ≡ true)) }
     ensures utf8 { IfSome result (λ r. IsUtf8 r.1.now) }
@@ -119,7 +115,7 @@ fn behind_opening_quote(text: &str) -> Option<(char, &str)>
 }
 
 // what follows a quote, where a text begins with it
-fn behind_closing_quote(text: &str, quote: char) -> Option<&str>
+fn after_closing_quote(text: &str, quote: char) -> Option<&str>
     ensures value { option_map (λ rest. chars rest.now) result ≡ after (quote ∷ []) (chars text.now) }
     ensures utf8 { IfSome result (λ rest. IsUtf8 rest.now) }
 {
@@ -128,8 +124,8 @@ fn behind_closing_quote(text: &str, quote: char) -> Option<&str>
 }
 
 // after a system identifier: the end sets the flag, and what else stands there is skipped
-fn behind_system(doctype: Doctype, text: &str) -> (Doctype, &str)
-    ensures value { doctype_and_rest result ≡ behind_system doctype (chars text.now) }
+fn after_system(doctype: Doctype, text: &str) -> (Doctype, &str)
+    ensures value { doctype_and_rest result ≡ after_system doctype (chars text.now) }
     ensures utf8 { IsUtf8 result.1.now }
 {
     if text.is_empty() {
@@ -144,7 +140,7 @@ fn ends_here(doctype: Doctype, text: &str) -> (Doctype, &str)
     ensures value { doctype_and_rest result ≡ ends_here doctype (chars text.now) }
     ensures utf8 { IsUtf8 result.1.now }
 {
-    match behind(text, ">") {
+    match trailing(text, ">") {
         Some(rest) => (doctype, rest),
         None => cut_short(doctype, text),
     }

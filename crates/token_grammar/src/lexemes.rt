@@ -1,27 +1,29 @@
-ghost use Rattle.std.specs.Prelude.{◌≡◌, ◌∷◌, [], chars, IfOk};
+ghost use Rattle.std.specs.Prelude.{◌≡◌, ◌∷◌, [], if◌then◌else◌, ◌&&◌, ◌==◌, IfOk, IfSome, None, Some, chars, codes};
+ghost use Rattle.std.specs.Prelude.{drop, map, option_map};
 ghost use Rattle.std.specs.Str.{IsUtf8};
 ghost use Rattle.token_grammar.specs.Characters.{is_letter, shown};
 ghost use Rattle.token_grammar.specs.Doctypes.{doctype_at};
 ghost use Rattle.token_grammar.specs.Items.{characters, item_of};
-ghost use Rattle.token_grammar.specs.Lexemes.{begins_tag, behind_slash, cdata_lexeme, comment_lexeme, declaration};
-ghost use Rattle.token_grammar.specs.Lexemes.{doctype_lexeme, ends_raw_text, has_end_tags, has_references, is_last};
-ghost use Rattle.token_grammar.specs.Lexemes.{kind_behind, lexeme, markup, named_end_tag, ordinary_item};
-ghost use Rattle.token_grammar.specs.Lexemes.{ordinary_lexeme, raw_lexeme, reference_lexeme, tag_lexeme, told};
+ghost use Rattle.token_grammar.specs.Lexemes.{after_slash, begins_tag, cdata_lexeme, comment_lexeme, declaration};
+ghost use Rattle.token_grammar.specs.Lexemes.{doctype_lexeme, emitted, ends_raw_text, has_end_tags, has_references};
+ghost use Rattle.token_grammar.specs.Lexemes.{is_last, kind_after, lexeme, markup, named_end_tag, ordinary_item};
+ghost use Rattle.token_grammar.specs.Lexemes.{ordinary_lexeme, raw_lexeme, reference_lexeme, tag_lexeme};
 ghost use Rattle.token_grammar.specs.PlainRead.{items_of, lexeme_of};
 ghost use Rattle.token_grammar.specs.Slices.{after, begins, cut, cut_or_all, first_passes, front_while, rest_while};
 ghost use Rattle.token_grammar.specs.Tags.{ends_tag_name, tag_at};
 ghost use Rattle.token_grammar.specs.Read.{cut_of};
 ghost use Rattle.token_grammar.specs.References.{reference};
-ghost use Rattle.token_grammar.specs.Told.{HasRest};
+ghost use Rattle.token_grammar.specs.Emitted.{HasRest};
 ghost use Rattle.token_grammar.specs.declared.modes.Mode.{Mode as SeenMode};
-ghost use Rattle.std.specs.Prelude.{option_map, map, codes, drop, IfSome, Some, None, if◌then◌else◌, ◌&&◌, ◌==◌};
 
 use crate::characters::shown_character;
 use crate::comments::{bogus_comment_slice, comment_slice, shown};
 use crate::doctypes::doctype_at;
 use crate::modes::{Mode, TextKind};
 use crate::references::{Found, reference};
-use crate::slices::{CharacterClass, behind, behind_word, cut_at, first_and_rest, split_while};
+use crate::slices::{
+    CharacterClass, cut_at, first_and_rest, rest_after_word, split_while, trailing,
+};
 use crate::tags::{name_of, tag_at};
 use html_lexemes::states::{RawKind, ScriptEscapeKind};
 use html_lexemes::{ErrorMessage, LocalName, ReferenceTable, Tag, TagKind, Text, Token};
@@ -33,7 +35,7 @@ pub enum Lexeme<'t> {
     /// Nothing: the end, also in a tag.
     Nothing,
     /// Some tokens, the kind of the text after them, and that text.
-    Told(Vec<Token>, TextKind, &'t str),
+    Emitted(Vec<Token>, TextKind, &'t str),
     /// A tag, and the text after it.
     Tagged(Tag, &'t str),
 }
@@ -61,19 +63,19 @@ pub fn lexeme_at<'t>(
 }
 
 // one token, and what follows it
-fn told_one(
+fn emitted_one(
     alloc: Global,
     token: Token,
     text: TextKind,
     rest: &str,
 ) -> Result<Lexeme<'_>, AllocError>
     ensures value { IfOk result (λ l. (mode : SeenMode) → lexeme_of mode l
-        ≡ told (item_of token ∷ []) (record mode { text = text }) (chars rest.now)) }
+        ≡ emitted (item_of token ∷ []) (record mode { text = text }) (chars rest.now)) }
     ensures utf8 { IfOk result HasRest }
 {
     let mut tokens = Vec::new(alloc);
     tokens.push(token)?;
-    Ok(Lexeme::Told(tokens, text, rest))
+    Ok(Lexeme::Emitted(tokens, text, rest))
 }
 
 // one character of text, and what follows it
@@ -84,10 +86,10 @@ fn one_character(
     rest: &str,
 ) -> Result<Lexeme<'_>, AllocError>
     ensures value { IfOk result (λ l. (mode : SeenMode) → lexeme_of mode l
-        ≡ told (characters (c ∷ []) ∷ []) (record mode { text = text }) (chars rest.now)) }
+        ≡ emitted (characters (c ∷ []) ∷ []) (record mode { text = text }) (chars rest.now)) }
     ensures utf8 { IfOk result HasRest }
 {
-    told_one(
+    emitted_one(
         alloc,
         Token::CharacterTokens(text_of(alloc, c)?),
         text,
@@ -119,7 +121,7 @@ fn ordinary<'t>(
     match c {
         '<' => markup(alloc, table, foreign, mode, rest),
         '&' => reference_or_sign(alloc, table, mode, rest),
-        '\0' => told_one(alloc, Token::NullCharacterToken, mode.text, rest),
+        '\0' => emitted_one(alloc, Token::NullCharacterToken, mode.text, rest),
         _ => one_character(alloc, mode.text, c, rest),
     }
 }
@@ -149,7 +151,7 @@ pub fn reference_or_sign<'t>(
         tokens.push(Token::ParseError(message))?;
     }
     tokens.push(Token::CharacterTokens(characters))?;
-    Ok(Lexeme::Told(tokens, mode.text, rest))
+    Ok(Lexeme::Emitted(tokens, mode.text, rest))
 }
 
 // what is said of a reference without its semicolon, from after its `&` on
@@ -173,15 +175,15 @@ pub fn markup<'t>(
     ensures value { IfOk result (λ l. lexeme_of mode.now l ≡ markup table.now foreign mode.now (chars rest.now)) }
     ensures utf8 { IfOk result HasRest }
 {
-    let Some((c, behind_c)) = first_and_rest(rest) else {
+    let Some((c, after_c)) = first_and_rest(rest) else {
         return one_character(alloc, mode.text, '<', rest);
     };
     if c.is_ascii_alphabetic() {
         return tag_or_nothing(alloc, table, TagKind::StartTag, rest);
     }
     match c {
-        '/' => end_tag(alloc, table, mode, behind_c),
-        '!' => declaration(alloc, foreign, mode, behind_c),
+        '/' => end_tag(alloc, table, mode, after_c),
+        '!' => declaration(alloc, foreign, mode, after_c),
         '?' => comment(alloc, mode, bogus_comment_slice(rest)),
         _ => one_character(alloc, mode.text, '<', rest),
     }
@@ -212,10 +214,10 @@ pub fn end_tag<'t>(
     mode: &Mode,
     rest: &'t str,
 ) -> Result<Lexeme<'t>, AllocError>
-    ensures value { IfOk result (λ l. lexeme_of mode.now l ≡ behind_slash table.now mode.now (chars rest.now)) }
+    ensures value { IfOk result (λ l. lexeme_of mode.now l ≡ after_slash table.now mode.now (chars rest.now)) }
     ensures utf8 { IfOk result HasRest }
 {
-    let Some((c, behind_c)) = first_and_rest(rest) else {
+    let Some((c, after_c)) = first_and_rest(rest) else {
         return one_character(alloc, mode.text, '<', "/");
     };
     if c.is_ascii_alphabetic() {
@@ -223,7 +225,7 @@ pub fn end_tag<'t>(
     }
     if c == '>' {
         let message = ErrorMessage::Fixed("Bad character");
-        return told_one(alloc, Token::ParseError(message), mode.text, behind_c);
+        return emitted_one(alloc, Token::ParseError(message), mode.text, after_c);
     }
     comment(alloc, mode, bogus_comment_slice(rest))
 }
@@ -241,7 +243,7 @@ pub fn comment<'t>(
 {
     let (slice, rest) = cut;
     let text = shown(alloc, slice)?;
-    told_one(alloc, Token::CommentToken(text), mode.text, rest)
+    emitted_one(alloc, Token::CommentToken(text), mode.text, rest)
 }
 
 /// What a `<!` begins, from after it on (WHATWG HTML, 13.2.5.42). The error is allocation failure alone.
@@ -254,10 +256,10 @@ pub fn declaration<'t>(
     ensures value { IfOk result (λ l. lexeme_of mode.now l ≡ declaration foreign mode.now (chars text.now)) }
     ensures utf8 { IfOk result HasRest }
 {
-    if let Some(rest) = behind(text, "--") {
+    if let Some(rest) = trailing(text, "--") {
         return comment(alloc, mode, comment_slice(rest));
     }
-    if let Some(rest) = behind_word(text, "doctype") {
+    if let Some(rest) = rest_after_word(text, "doctype") {
         return doctype(alloc, mode, rest);
     }
     match section_text(foreign, text) {
@@ -272,7 +274,7 @@ pub fn doctype<'t>(alloc: Global, mode: &Mode, text: &'t str) -> Result<Lexeme<'
     ensures utf8 { IfOk result HasRest }
 {
     let (doctype, rest) = doctype_at(alloc, text)?;
-    told_one(alloc, Token::DoctypeToken(doctype), mode.text, rest)
+    emitted_one(alloc, Token::DoctypeToken(doctype), mode.text, rest)
 }
 
 // what follows the opening of a CDATA section, where one may stand
@@ -284,7 +286,7 @@ fn section_text(foreign: bool, text: &str) -> Option<&str>
     if !foreign {
         return None;
     }
-    behind(text, "[CDATA[")
+    trailing(text, "[CDATA[")
 }
 
 /// The text of a CDATA section, from after its opening, and what follows it (WHATWG HTML, 13.2.5.69). The error is
@@ -295,7 +297,7 @@ pub fn section<'t>(alloc: Global, mode: &Mode, text: &'t str) -> Result<Lexeme<'
     ensures utf8 { IfOk result HasRest }
 {
     let (slice, rest) = cut_at(text, "]]>").unwrap_or((text, ""));
-    Ok(Lexeme::Told(tokens_of(alloc, slice)?, mode.text, rest))
+    Ok(Lexeme::Emitted(tokens_of(alloc, slice)?, mode.text, rest))
 }
 
 // a token for each character
@@ -304,9 +306,9 @@ fn tokens_of(alloc: Global, text: &str) -> Result<Vec<Token>, AllocError>
 {
     let mut tokens = Vec::new(alloc);
     let mut rest = text;
-    'characters: while let Some((c, behind_c)) = first_and_rest(rest) {
+    'characters: while let Some((c, after_c)) = first_and_rest(rest) {
         tokens.push(ordinary_token(alloc, c)?)?;
-        rest = behind_c;
+        rest = after_c;
     }
     Ok(tokens)
 }
@@ -343,7 +345,7 @@ pub fn raw<'t>(
     }
     one_character(
         alloc,
-        TextKind::Raw(kind_behind(kind, text)),
+        TextKind::Raw(kind_after(kind, text)),
         shown_character(c),
         rest,
     )
@@ -365,7 +367,7 @@ fn end_tag_name<'t>(
     if c != '<' || !has_end_tags(kind) {
         return Ok(None);
     }
-    let Some(name) = behind(rest, "/") else {
+    let Some(name) = trailing(rest, "/") else {
         return Ok(None);
     };
     if begins_with_last(alloc, &mode.last_start_tag, name)? {
@@ -423,8 +425,8 @@ fn ends_name(text: &str) -> bool
 }
 
 // the kind of the text after a first character of script data (WHATWG HTML, 13.2.5.18 to 13.2.5.31)
-fn kind_behind(kind: RawKind, text: &str) -> RawKind
-    ensures { result ≡ kind_behind kind (chars text.now) }
+fn kind_after(kind: RawKind, text: &str) -> RawKind
+    ensures { result ≡ kind_after kind (chars text.now) }
 {
     match kind {
         RawKind::Rcdata | RawKind::Rawtext => kind,
@@ -435,13 +437,13 @@ fn kind_behind(kind: RawKind, text: &str) -> RawKind
                 RawKind::ScriptData
             }
         }
-        RawKind::ScriptDataEscaped(escape) => escaped_kind_behind(escape, text),
+        RawKind::ScriptDataEscaped(escape) => escaped_kind_after(escape, text),
     }
 }
 
 // the same in an escaped part
-fn escaped_kind_behind(escape: ScriptEscapeKind, text: &str) -> RawKind
-    ensures { result ≡ kind_behind (RawKind.ScriptDataEscaped escape) (chars text.now) }
+fn escaped_kind_after(escape: ScriptEscapeKind, text: &str) -> RawKind
+    ensures { result ≡ kind_after (RawKind.ScriptDataEscaped escape) (chars text.now) }
 {
     if begins(text, "-->") {
         return RawKind::ScriptData;
@@ -467,14 +469,14 @@ fn escaped_kind_behind(escape: ScriptEscapeKind, text: &str) -> RawKind
 fn begins(text: &str, mark: &str) -> bool
     ensures { result ≡ begins (chars mark.now) (chars text.now) }
 {
-    behind(text, mark).is_some()
+    trailing(text, mark).is_some()
 }
 
 // whether a text begins with a word, ASCII case aside, and a tag's name ends after it
 fn begins_tag(text: &str, word: &str) -> bool
     ensures { result ≡ begins_tag (chars word.now) (chars text.now) }
 {
-    match behind_word(text, word) {
+    match rest_after_word(text, word) {
         Some(rest) => ends_name(rest),
         None => false,
     }

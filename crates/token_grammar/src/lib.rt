@@ -23,7 +23,7 @@
 //! Each part of the plain reader is proved to give what the grammar gives (`reference`, `value_of`, `tag_at`,
 //! `comment_slice`, `bogus_comment_slice`, `doctype_at`, `lexeme_at`, each with an exact contract). `rt plant` has
 //! run on this crate's public calls: of 141 wrong bodies that it could judge 139 are refused. It lets through
-//! another line for the tokens that `tell_lexemes` and `tell_tokens` tell: lines are tested. What stands after a
+//! another line for the tokens that `emit_lexemes` and `emit_tokens` tell: lines are tested. What stands after a
 //! refusal of the plain reader is not said. That it does read where memory is found is tested: a reader that always
 //! answers `Memory` would be proved.
 //!

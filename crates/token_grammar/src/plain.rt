@@ -4,7 +4,7 @@ ghost use Rattle.html_lexemes.specs.declared.fault.ParseFault.TheVariants.{Memor
 ghost use Rattle.token_grammar.specs.FirstMode.{first_mode};
 ghost use Rattle.token_grammar.specs.Items.{Item, end_of_file, tag as tag_item};
 ghost use Rattle.token_grammar.specs.Kinds.{AreWelcome, IsReadyFor};
-ghost use Rattle.token_grammar.specs.Modes.{last_behind, mode_behind, text_behind, text_of_state};
+ghost use Rattle.token_grammar.specs.Modes.{last_after, next_mode, text_after, text_of_state};
 ghost use Rattle.token_grammar.specs.PageText.{page_text};
 ghost use Rattle.token_grammar.specs.PlainRead.{items_of};
 ghost use Rattle.token_grammar.specs.Reading.{IsClosed, Reading};
@@ -18,7 +18,7 @@ use html_lexemes::states::State;
 use html_lexemes::{LocalName, ParseFault, ReferenceTable, Tag, TagKind, Token, TokenSinkResult};
 use std::alloc::{AllocError, Global};
 
-/// Tells a whole page to a sink, as the grammar reads it, and that it ends. It is slow and plain: what a tokenizer is
+/// Emits a whole page to a sink, as the grammar reads it, and that it ends. It is slow and plain: what a tokenizer is
 /// compared with, and no tokenizer. Pauses that the sink asks for are passed over, each token stands at
 /// line 1, and errors that change nothing aren't emitted.
 ///
@@ -32,7 +32,7 @@ pub fn read_plainly<S: TokenSink>(
 ) -> Result<(), ParseFault>
     requires { IsReadyFor S.ready S.welcomes (text_of_state opts.initial_state) (S.state sink.old) }
     ensures memory { IfErr result (λ e. e ≡ Memory) }
-    ensures told { OnOk result (IsClosed S.close
+    ensures emitted { OnOk result (IsClosed S.close
         (Reading table.now S.means (first_mode opts) (S.state sink.old) (page_text opts.discard_bom (chars text.now)))
         (S.state sink.new)) }
 {
@@ -47,7 +47,7 @@ pub fn read_plainly<S: TokenSink>(
         text: text_of_state(initial_state),
         last_start_tag: last_start_tag_name,
     };
-    tell_lexemes(alloc, sink, table, mode, page.as_str(), 1)?;
+    emit_lexemes(alloc, sink, table, mode, page.as_str(), 1)?;
     sink.process_token(Token::EOFToken, 1)?;
     sink.end()
 }
@@ -63,9 +63,9 @@ pub fn text_of_state(state: Option<State>) -> TextKind
     }
 }
 
-/// Tells what stands in a text before its end, each token at a line, and passes over pauses that the sink asks for. The
+/// Emits what stands in a text before its end, each token at a line, and passes over pauses that the sink asks for. The
 /// error is allocation failure; then nothing is known of the sink.
-pub fn tell_lexemes<S: TokenSink>(
+pub fn emit_lexemes<S: TokenSink>(
     alloc: Global,
     sink: &mut S,
     table: &ReferenceTable,
@@ -76,7 +76,7 @@ pub fn tell_lexemes<S: TokenSink>(
     requires { IsReadyFor S.ready S.welcomes mode.text (S.state sink.old) }
     ensures memory { IfErr result (λ e. e ≡ Memory) }
     ensures ready { OnOk result (IsReadyFor S.ready S.welcomes Plain (S.state sink.new)) }
-    ensures told { OnOk result
+    ensures emitted { OnOk result
         (Reading table.now S.means mode (S.state sink.old) (chars text.now)
         (S.means.step (S.state sink.new) end_of_file)) }
 {
@@ -85,21 +85,21 @@ pub fn tell_lexemes<S: TokenSink>(
         let foreign = sink.adjusted_current_node_present_but_not_in_html_namespace();
         match lexeme_at(alloc, table, foreign, &mode, rest)? {
             Lexeme::Nothing => return Ok(()),
-            Lexeme::Told(tokens, text, behind) => {
-                tell_tokens(sink, tokens, line)?;
+            Lexeme::Emitted(tokens, text, trailing) => {
+                emit_tokens(sink, tokens, line)?;
                 mode.text = text;
-                rest = behind;
+                rest = trailing;
             }
-            Lexeme::Tagged(tag, behind) => {
-                mode = tell_tag(sink, mode, tag, line)?;
-                rest = behind;
+            Lexeme::Tagged(tag, trailing) => {
+                mode = emit_tag(sink, mode, tag, line)?;
+                rest = trailing;
             }
         }
     }
 }
 
-/// Tells some tokens that the sink welcomes, none of which is a tag, at a line. The error is allocation failure.
-pub fn tell_tokens<S: TokenSink>(
+/// Emits some tokens that the sink welcomes, none of which is a tag, at a line. The error is allocation failure.
+pub fn emit_tokens<S: TokenSink>(
     sink: &mut S,
     tokens: Vec<Token>,
     line: u64,
@@ -110,7 +110,7 @@ pub fn tell_tokens<S: TokenSink>(
     ensures ready { OnOk result (S.ready (S.state sink.new)) }
     ensures hears { OnOk result ((item : Item) → S.welcomes (S.state sink.old) item →
         S.welcomes (S.state sink.new) item) }
-    ensures told { OnOk result (S.state sink.new ≡ fold S.means.step (S.state sink.old) (items_of tokens.items)) }
+    ensures emitted { OnOk result (S.state sink.new ≡ fold S.means.step (S.state sink.old) (items_of tokens.items)) }
 {
     'tokens: for token in tokens {
         sink.process_token(token, line)?;
@@ -119,26 +119,26 @@ pub fn tell_tokens<S: TokenSink>(
 }
 
 // emits a tag, and gives the mode after it
-fn tell_tag<S: TokenSink>(sink: &mut S, mode: Mode, tag: Tag, line: u64) -> Result<Mode, ParseFault>
+fn emit_tag<S: TokenSink>(sink: &mut S, mode: Mode, tag: Tag, line: u64) -> Result<Mode, ParseFault>
     requires ready { S.ready (S.state sink.old) }
     requires welcome { S.welcomes (S.state sink.old) (tag_item tag) }
     ensures memory { IfErr result (λ e. e ≡ Memory) }
-    ensures ready { IfOk result (λ behind. IsReadyFor S.ready S.welcomes behind.text (S.state sink.new)) }
-    ensures told { OnOk result (S.state sink.new ≡ S.means.step (S.state sink.old) (tag_item tag)) }
+    ensures ready { IfOk result (λ trailing. IsReadyFor S.ready S.welcomes trailing.text (S.state sink.new)) }
+    ensures emitted { OnOk result (S.state sink.new ≡ S.means.step (S.state sink.old) (tag_item tag)) }
     ensures mode { IfOk result
-        (λ behind. behind ≡ mode_behind mode tag (S.means.reply (S.state sink.old) (tag_item tag))) }
+        (λ trailing. trailing ≡ next_mode mode tag (S.means.reply (S.state sink.old) (tag_item tag))) }
 {
-    let last_start_tag = last_behind(mode.last_start_tag, &tag)?;
+    let last_start_tag = last_after(mode.last_start_tag, &tag)?;
     let answer = sink.process_token(Token::TagToken(tag), line)?;
     Ok(Mode {
-        text: text_behind(&answer),
+        text: text_after(&answer),
         last_start_tag,
     })
 }
 
 /// The name of the last start tag after a tag. The error is allocation failure alone.
-pub fn last_behind(last: Option<LocalName>, tag: &Tag) -> Result<Option<LocalName>, AllocError>
-    ensures { IfOk result (λ name. name ≡ last_behind tag.now.kind tag.now.name last) }
+pub fn last_after(last: Option<LocalName>, tag: &Tag) -> Result<Option<LocalName>, AllocError>
+    ensures { IfOk result (λ name. name ≡ last_after tag.now.kind tag.now.name last) }
 {
     match tag.kind {
         TagKind::StartTag => Ok(Some(tag.name.try_clone()?)),
@@ -147,8 +147,8 @@ pub fn last_behind(last: Option<LocalName>, tag: &Tag) -> Result<Option<LocalNam
 }
 
 /// The kind of text that a sink asks for.
-pub fn text_behind<H>(answer: &TokenSinkResult<H>) -> TextKind
-    ensures { result ≡ text_behind answer.now }
+pub fn text_after<H>(answer: &TokenSinkResult<H>) -> TextKind
+    ensures { result ≡ text_after answer.now }
 {
     match answer {
         TokenSinkResult::Plaintext => TextKind::Plain,
@@ -163,8 +163,8 @@ fn page_text(alloc: Global, discard_mark: bool, text: &str) -> Result<String, Al
 {
     let mut page = String::new(alloc);
     let mut rest = without_mark_if(discard_mark, text);
-    'characters: while let Some((c, behind_c)) = first_and_rest(rest) {
-        rest = behind_c;
+    'characters: while let Some((c, after_c)) = first_and_rest(rest) {
+        rest = after_c;
         push_ended(&mut page, c, rest)?;
     }
     Ok(page)

@@ -1,5 +1,5 @@
-ghost use Rattle.std.specs.Prelude.{◌≡◌, ◌==◌, ◌||◌, ◌≤◌, if◌then◌else◌, chars, not, option_map, true, IfOk, IfSome};
-ghost use Rattle.std.specs.Prelude.{IsTrue};
+ghost use Rattle.std.specs.Prelude.{◌≡◌, ◌==◌, ◌||◌, ◌≤◌, if◌then◌else◌, IfOk, IfSome, IsTrue, chars, not, option_map};
+ghost use Rattle.std.specs.Prelude.{true};
 ghost use Rattle.std.specs.Char.{IsScalar};
 ghost use Rattle.std.specs.List.{list_all, list_any};
 ghost use Rattle.std.specs.Str.{IsUtf8};
@@ -7,12 +7,12 @@ ghost use Rattle.lex_base.specs.References.{References};
 ghost use Rattle.token_grammar.specs.Characters.{is_alphanumeric, is_digit};
 ghost use Rattle.token_grammar.specs.Classes.{is_of};
 ghost use Rattle.token_grammar.specs.Read.{found_of};
-ghost use Rattle.token_grammar.specs.References.{behind_number_sign, named, number_of, numbered, numeric, reference};
+ghost use Rattle.token_grammar.specs.References.{after_number_sign, named, number_of, numbered, numeric, reference};
 ghost use Rattle.token_grammar.specs.References.{reference_in_value, value_of};
 ghost use Rattle.token_grammar.specs.Slices.{first_passes};
 
 use crate::characters::shown_character;
-use crate::slices::{CharacterClass, behind, first_and_rest, split_while};
+use crate::slices::{CharacterClass, first_and_rest, split_while, trailing};
 use html_lexemes::{ReferenceTable, Text};
 use std::alloc::{AllocError, Global};
 
@@ -37,7 +37,7 @@ pub fn reference<'t>(
     ensures value { IfOk result (λ found. option_map found_of found ≡ reference table.now (chars text.now)) }
     ensures utf8 { IfOk result (λ found. IfSome found (λ f. IsUtf8 f.rest.now)) }
 {
-    match behind(text, "#") {
+    match trailing(text, "#") {
         Some(rest) => numeric(alloc, rest),
         None => named(alloc, table, text),
     }
@@ -53,7 +53,7 @@ pub fn reference_in_value<'t>(
     ensures value { IfOk result (λ found. option_map found_of found ≡ reference_in_value table.now (chars text.now)) }
     ensures utf8 { IfOk result (λ found. IfSome found (λ f. IsUtf8 f.rest.now)) }
 {
-    if let Some(rest) = behind(text, "#") {
+    if let Some(rest) = trailing(text, "#") {
         return numeric(alloc, rest);
     }
     let Some(found) = named(alloc, table, text)? else {
@@ -83,14 +83,14 @@ pub fn value_of(alloc: Global, table: &ReferenceTable, text: &str) -> Result<Tex
     }
     let mut value = String::new(alloc);
     let mut rest = text;
-    'value: while let Some((c, behind_c)) = first_and_rest(rest) {
-        if let Some(found) = reference_behind(alloc, table, c, behind_c)? {
+    'value: while let Some((c, after_c)) = first_and_rest(rest) {
+        if let Some(found) = reference_after(alloc, table, c, after_c)? {
             value.push_str(found.characters.as_str())?;
             rest = found.rest;
             continue;
         }
         value.push(shown_character(c))?;
-        rest = behind_c;
+        rest = after_c;
     }
     Ok(Text::from(value))
 }
@@ -103,7 +103,7 @@ fn is_shown(text: &str) -> bool
 }
 
 // the reference after a character of an attribute's value, which is one after `&` alone
-fn reference_behind<'t>(
+fn reference_after<'t>(
     alloc: Global,
     table: &ReferenceTable,
     c: char,
@@ -142,7 +142,7 @@ fn named<'t>(
     let Some(longest) = table.longest_name(text) else {
         return Ok(None);
     };
-    let Some(rest) = behind(text, longest.name) else {
+    let Some(rest) = trailing(text, longest.name) else {
         return Ok(None);
     };
     Ok(Some(Found {
@@ -161,10 +161,10 @@ fn is_closed(name: &str) -> bool
 
 // the number after `#`
 fn numeric(alloc: Global, text: &str) -> Result<Option<Found<'_>>, AllocError>
-    ensures value { IfOk result (λ found. option_map found_of found ≡ behind_number_sign (chars text.now)) }
+    ensures value { IfOk result (λ found. option_map found_of found ≡ after_number_sign (chars text.now)) }
     ensures utf8 { IfOk result (λ found. IfSome found (λ f. IsUtf8 f.rest.now)) }
 {
-    match behind(text, "x").or(behind(text, "X")) {
+    match trailing(text, "x").or(trailing(text, "X")) {
         Some(rest) => number(alloc, rest, 16, CharacterClass::HexadecimalDigit),
         None => number(alloc, text, 10, CharacterClass::DecimalDigit),
     }
@@ -189,7 +189,7 @@ fn number(
     }
     let mut characters = String::new(alloc);
     characters.push(numbered(number_of(base, digits)))?;
-    let end = behind(rest, ";");
+    let end = trailing(rest, ";");
     Ok(Some(Found {
         characters: Text::from(characters),
         closed: end.is_some(),

@@ -100,7 +100,7 @@ pub fn skip(text: &str, class: CharacterClass) -> &str
 }
 
 /// What follows a mark, where a text begins with it.
-pub fn behind<'t>(text: &'t str, mark: &str) -> Option<&'t str>
+pub fn trailing<'t>(text: &'t str, mark: &str) -> Option<&'t str>
     ensures value { option_map (λ rest. chars rest.now) result ≡ after (chars mark.now) (chars text.now) }
     ensures utf8 { IfSome result (λ rest. IsUtf8 rest.now) }
 {
@@ -108,17 +108,17 @@ pub fn behind<'t>(text: &'t str, mark: &str) -> Option<&'t str>
 }
 
 /// What follows a word of lower case letters, ASCII case aside, where a text begins with it.
-pub fn behind_word<'t>(text: &'t str, word: &str) -> Option<&'t str>
+pub fn rest_after_word<'t>(text: &'t str, word: &str) -> Option<&'t str>
     ensures value { option_map (λ rest. chars rest.now) result ≡ after_word (chars word.now) (chars text.now) }
     ensures utf8 { IfSome result (λ rest. IsUtf8 rest.now) }
 {
     let mut rest = text;
     'word: for wanted in word.chars() {
-        let (found, behind_found) = first_and_rest(rest)?;
+        let (found, after_found) = first_and_rest(rest)?;
         if found.to_ascii_lowercase() != wanted {
             return None;
         }
-        rest = behind_found;
+        rest = after_found;
     }
     Some(rest)
 }
@@ -132,7 +132,7 @@ pub fn cut_at<'t>(text: &'t str, mark: &str) -> Option<(&'t str, &'t str)>
     let mut length = 0;
     'cut: for c in text.chars() {
         let (slice, marked) = text.split_at(length);
-        if let Some(rest) = behind(marked, mark) {
+        if let Some(rest) = trailing(marked, mark) {
             return Some((slice, rest));
         }
         length += c.len_utf8();

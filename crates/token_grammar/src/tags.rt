@@ -1,5 +1,5 @@
-ghost use Rattle.std.specs.Prelude.{◌≡◌, ℕ, List, ◌∷◌, ◌++◌, ◌||◌, ◌&&◌, true, take, chars, option_map, IfOk, IfSome};
-ghost use Rattle.std.specs.Prelude.{OnOk, string_bytes};
+ghost use Rattle.std.specs.Prelude.{◌≡◌, ◌∷◌, ◌++◌, ◌||◌, ◌&&◌, IfOk, IfSome, List, OnOk, chars, option_map};
+ghost use Rattle.std.specs.Prelude.{string_bytes, take, true, ℕ};
 ghost use Rattle.std.specs.Char.{to_ascii_lowercase};
 ghost use Rattle.std.specs.Str.{IsUtf8, bytes_eq};
 ghost use Rattle.std.specs.Bool.{nat_le};
@@ -7,7 +7,7 @@ ghost use Rattle.std.specs.BTreeSet.{contains};
 ghost use Rattle.std.specs.Cmp.Lexicographic.{slice_cmp};
 ghost use Rattle.std.specs.Ordering.{nat_cmp};
 ghost use Rattle.token_grammar.specs.Characters.{name_of, shown};
-ghost use Rattle.token_grammar.specs.Tags.{attribute_at, ends_with_slash, tag_at, value_behind, written_value};
+ghost use Rattle.token_grammar.specs.Tags.{attribute_at, ends_with_slash, tag_at, value_after, written_value};
 ghost use Rattle.token_grammar.specs.TagParts.{HasLaterNames, attribute_and_rest, is_named, with_new};
 ghost use Rattle.token_grammar.specs.Read.{cut_of, tag_and_rest};
 ghost use Rattle.token_grammar.specs.Classes.{is_of};
@@ -15,8 +15,10 @@ ghost use Rattle.token_grammar.specs.Slices.{front_while, rest_while};
 ghost use Rattle.token_grammar.specs.declared.slices.CharacterClass.TheVariants.{AttributeName};
 
 use crate::references::value_of;
-use crate::slices::{CharacterClass, behind, cut_at_character, first_and_rest, split_while};
-use html_lexemes::{Attribute, Attributes, LocalName, Namespace, QualName, ReferenceTable, Tag, TagKind, Text};
+use crate::slices::{CharacterClass, cut_at_character, first_and_rest, split_while, trailing};
+use html_lexemes::{
+    Attribute, Attributes, LocalName, Namespace, QualName, ReferenceTable, Tag, TagKind, Text,
+};
 use std::alloc::{AllocError, Global};
 use std::collections::BTreeSet;
 
@@ -40,8 +42,8 @@ pub fn tag_at<'t>(
     let mut later = BTreeSet::new(alloc);
     let mut had_duplicate_attributes = false;
     'attributes: loop {
-        let (gap, behind_gap) = split_while(rest, CharacterClass::Gap);
-        let Some((c, behind_c)) = first_and_rest(behind_gap) else {
+        let (gap, after_gap) = split_while(rest, CharacterClass::Gap);
+        let Some((c, after_c)) = first_and_rest(after_gap) else {
             return Ok(None);
         };
         if c == '>' {
@@ -52,15 +54,13 @@ pub fn tag_at<'t>(
                 attrs,
                 had_duplicate_attributes,
             };
-            return Ok(Some((tag, behind_c)));
+            return Ok(Some((tag, after_c)));
         }
-        let Some((attribute, behind_attribute)) = attribute_at(
-            alloc, table, behind_gap, c, behind_c,
-        )?
+        let Some((attribute, after_attribute)) = attribute_at(alloc, table, after_gap, c, after_c)?
         else {
             return Ok(None);
         };
-        rest = behind_attribute;
+        rest = after_attribute;
         let is_dropped = add_new(&mut attrs, &mut later, attribute)?;
         had_duplicate_attributes |= is_dropped;
     }
@@ -133,15 +133,15 @@ fn attribute_at<'t>(
     table: &ReferenceTable,
     text: &'t str,
     first: char,
-    behind: &'t str,
+    trailing: &'t str,
 ) -> Result<Option<(Attribute, &'t str)>, AllocError>
-    requires { chars text.now ≡ first ∷ chars behind.now }
+    requires { chars text.now ≡ first ∷ chars trailing.now }
     ensures value { IfOk result (λ read. option_map attribute_and_rest read
-        ≡ attribute_at table.now first (chars behind.now)) }
+        ≡ attribute_at table.now first (chars trailing.now)) }
     ensures utf8 { IfOk result (λ read. IfSome read (λ r. IsUtf8 r.1.now)) }
 {
-    let (name, rest) = attribute_name(alloc, text, first, behind)?;
-    let Some((value, rest)) = value_behind(rest) else {
+    let (name, rest) = attribute_name(alloc, text, first, trailing)?;
+    let Some((value, rest)) = value_after(rest) else {
         return Ok(None);
     };
     let attribute = Attribute {
@@ -156,31 +156,31 @@ fn attribute_name<'t>(
     alloc: Global,
     text: &'t str,
     first: char,
-    behind: &'t str,
+    trailing: &'t str,
 ) -> Result<(LocalName, &'t str), AllocError>
-    requires { chars text.now ≡ first ∷ chars behind.now }
+    requires { chars text.now ≡ first ∷ chars trailing.now }
     ensures name { IfOk result (λ r. r.0
-        ≡ name_of (first ∷ front_while (is_of AttributeName) (chars behind.now))) }
-    ensures rest { IfOk result (λ r. chars r.1.now ≡ rest_while (is_of AttributeName) (chars behind.now)) }
+        ≡ name_of (first ∷ front_while (is_of AttributeName) (chars trailing.now))) }
+    ensures rest { IfOk result (λ r. chars r.1.now ≡ rest_while (is_of AttributeName) (chars trailing.now)) }
     ensures utf8 { IfOk result (λ r. IsUtf8 r.1.now) }
 {
     if CharacterClass::AttributeName.has(first) {
         let (name, rest) = split_while(text, CharacterClass::AttributeName);
         return Ok((local_name(alloc, name)?, rest));
     }
-    let (name, rest) = split_while(behind, CharacterClass::AttributeName);
+    let (name, rest) = split_while(trailing, CharacterClass::AttributeName);
     let name = LocalName::from(name_from(alloc, first, name)?);
     Ok((name, rest))
 }
 
 // the value after an attribute's name as it is written, and what follows it
-fn value_behind(text: &str) -> Option<(&str, &str)>
-    ensures value { option_map cut_of result ≡ value_behind (chars text.now) }
+fn value_after(text: &str) -> Option<(&str, &str)>
+    ensures value { option_map cut_of result ≡ value_after (chars text.now) }
     ensures slice_utf8 { IfSome result (λ r. IsUtf8 r.0.now) }
     ensures rest_utf8 { IfSome result (λ r. IsUtf8 r.1.now) }
 {
-    let (_, behind_spaces) = split_while(text, CharacterClass::Space);
-    let Some(rest) = behind(behind_spaces, "=") else {
+    let (_, after_spaces) = split_while(text, CharacterClass::Space);
+    let Some(rest) = trailing(after_spaces, "=") else {
         return Some(("", text));
     };
     let (_, value) = split_while(rest, CharacterClass::Space);

@@ -1,7 +1,7 @@
 -- Where a comment ends, read one character more.
-use Rattle.std.proofs.Common.{◌≡◌, ◌≢◌, ℕ, ◌≤◌, Bool, true, false, ◌&&◌, ◌==◌, ◌⊎◌, List, [], ◌∷◌, ◌++◌, length, drop}
-use Rattle.std.proofs.Common.{Option, Some, None, codes, MatchBool, IsUtf8, encode_utf8_all, arith, length-append, refl}
-use Rattle.std.proofs.Common.{sym, ap, ap₂, subst, ◌∙◌, append_assoc}
+use Rattle.std.proofs.Common.{◌≡◌, ◌≢◌, ◌≤◌, ◌&&◌, ◌==◌, ◌⊎◌, [], ◌∷◌, ◌++◌, ◌∙◌, Bool, IsUtf8, List, MatchBool, None}
+use Rattle.std.proofs.Common.{Option, Some, ap, append_assoc, ap₂, arith, codes, drop, encode_utf8_all, false, length}
+use Rattle.std.proofs.Common.{length-append, refl, subst, sym, true, ℕ}
 use Rattle.std.proofs.Math.Logic.{◌⊎◌.inl, ◌⊎◌.inr}
 use Rattle.std.proofs.lemmas.Bool.{and_parts, cases_Bool, eqb-true}
 use Rattle.std.proofs.lemmas.Str.{chars-append, encodes-append, encodes-chars}
@@ -18,7 +18,7 @@ use Rattle.token_grammar.specs.declared.modes.Mode.{Mode}
 use Rattle.token_states.specs.CommentEnds.{EndsApart, EndsWith, IsClosed, IsNotClosed}
 use Rattle.token_states.specs.MarkupSound.{IsOpenComment}
 use Rattle.token_states.specs.Turns.{IsOver}
-use Rattle.token_states.specs.declared.place.Place.TheVariants.{Comment}
+use Rattle.token_states.specs.declared.place.LexemeState.TheVariants.{Comment}
 use Rattle.token_states.proofs.MarkupHeld.{and_false, over_by}
 
 -- ---- a mark at a text's beginning

@@ -1,6 +1,6 @@
 -- The turn at one or two dashes of an escaped part.
-use Rattle.std.proofs.Common.{◌≡◌, ◌≢◌, ◌⊎◌, inl, inr, ℕ, Bool, true, false, ◌==◌, List, [], ◌∷◌, ◌++◌, length, codes}
-use Rattle.std.proofs.Common.{IsUtf8, encode_utf8_all, refl, sym, ap, subst, ◌∙◌, arith}
+use Rattle.std.proofs.Common.{◌≡◌, ◌≢◌, ◌⊎◌, ◌==◌, [], ◌∷◌, ◌++◌, ◌∙◌, Bool, IsUtf8, List, ap, arith, codes}
+use Rattle.std.proofs.Common.{encode_utf8_all, false, inl, inr, length, refl, subst, sym, true, ℕ}
 use Rattle.std.proofs.lemmas.Bool.{and_from, and_parts, and_left, eqb-true, ne_eqb}
 use Rattle.std.proofs.lemmas.Str.{encodes-chars}
 use Rattle.std.specs.Str.{chars}
@@ -57,11 +57,11 @@ two_dashes bs u h n = elim (dash_or_dashes (chars bs) h) [
 ]
 
 -- in an escaped part, a dash that no `->` follows, and what is text after it
-dash_then : (table : References) (mode : Mode) (escape : ScriptEscapeKind) (behind : RawKind) (text rest : List ℕ) →
+dash_then : (table : References) (mode : Mode) (escape : ScriptEscapeKind) (trailing : RawKind) (text rest : List ℕ) →
     begins (codes "->") (text ++ rest) ≡ false →
-    IsText table (in_kind mode (ScriptDataEscaped escape)) text (in_kind mode behind) rest →
-    IsText table (in_kind mode (ScriptDataEscaped escape)) (45 ∷ text) (in_kind mode behind) rest
-dash_then table mode escape behind text rest e h =
+    IsText table (in_kind mode (ScriptDataEscaped escape)) text (in_kind mode trailing) rest →
+    IsText table (in_kind mode (ScriptDataEscaped escape)) (45 ∷ text) (in_kind mode trailing) rest
+dash_then table mode escape trailing text rest e h =
     (in_kind mode (ScriptDataEscaped escape), (λ foreign. dash_one table foreign mode escape (text ++ rest) e), h)
 
 arrow_then : (table : References) (foreign : Bool) (mode : Mode) (escape : ScriptEscapeKind) (rest : List ℕ) →

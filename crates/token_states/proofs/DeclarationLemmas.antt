@@ -1,6 +1,6 @@
 -- What stands after `<!`, read one character more.
-use Rattle.std.proofs.Common.{◌≡◌, ℕ, Bool, true, false, ◌&&◌, ◌||◌, ◌==◌, not, ◌⊎◌, List, [], ◌∷◌, ◌++◌, length, drop}
-use Rattle.std.proofs.Common.{Some, None, codes, IsTrue, IsUtf8, encode_utf8, refl, sym, ap, ap₂, subst, ◌∙◌}
+use Rattle.std.proofs.Common.{◌≡◌, ◌&&◌, ◌||◌, ◌==◌, ◌⊎◌, [], ◌∷◌, ◌++◌, ◌∙◌, Bool, IsTrue, IsUtf8, List, None, Some}
+use Rattle.std.proofs.Common.{ap, ap₂, codes, drop, encode_utf8, false, length, not, refl, subst, sym, true, ℕ}
 use Rattle.std.proofs.Math.Logic.{◌⊎◌.inl, ◌⊎◌.inr}
 use Rattle.std.proofs.lemmas.Bool.{and_parts, both_ways, eq-eqb, eqb-true, ne_eqb}
 use Rattle.std.proofs.lemmas.Str.{chars_past_char}
@@ -21,9 +21,9 @@ use Rattle.token_states.specs.Turns.{IsTaken}
 use Rattle.token_states.specs.Spellings.{folded, spelled}
 use Rattle.token_states.specs.declared.declarations.Spelled.{Spelled}
 use Rattle.token_states.specs.declared.declarations.Spelled.TheVariants.{Whole, Front, Apart}
-use Rattle.token_states.specs.declared.place.Place.{Place}
-use Rattle.token_states.specs.declared.place.Place.TheVariants.{BogusComment, CdataSection, Comment, Doctype}
-use Rattle.token_states.specs.declared.place.Place.TheVariants.{MarkupDeclarationOpen}
+use Rattle.token_states.specs.declared.place.LexemeState.{LexemeState}
+use Rattle.token_states.specs.declared.place.LexemeState.TheVariants.{BogusComment, CdataSection, Comment, Doctype}
+use Rattle.token_states.specs.declared.place.LexemeState.TheVariants.{MarkupDeclarationOpen}
 use Rattle.token_states.proofs.MarkupHeld.{and_false, first_of, held_more}
 
 -- ---- marks and words alike
@@ -332,7 +332,7 @@ at_mark f mark cs r s e h is = ap (λ m. spelled f m cs) (sym e) ∙ (sym h ∙ 
 -- ---- the turn
 
 pub opened_taken : (table : References) (foreign : Bool) (mode : Mode) (hs now text cleared : List ℕ) (c : ℕ)
-    (place : Place) → now ≡ hs ++ c ∷ [] → text ≡ now → cleared ≡ [] → IsOpened foreign text place →
+    (place : LexemeState) → now ≡ hs ++ c ∷ [] → text ≡ now → cleared ≡ [] → IsOpened foreign text place →
     IsTaken table foreign mode MarkupDeclarationOpen hs c place cleared
 opened_taken table foreign mode hs now text cleared c place e same none opened rest =
     ap (λ l. place_lexeme table foreign mode place (l ++ rest)) none

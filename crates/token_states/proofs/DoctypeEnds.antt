@@ -1,14 +1,14 @@
 -- A doctype ends at its first `>`.
-use Rattle.std.proofs.Common.{◌≡◌, ℕ, zero, suc, Bool, true, false, ◌&&◌, ◌||◌, ◌==◌, not, List, [], ◌∷◌, ◌++◌, length}
-use Rattle.std.proofs.Common.{drop, Option, Some, None, codes, refl, sym, ap, ap₂, ◌∙◌}
+use Rattle.std.proofs.Common.{◌≡◌, ◌&&◌, ◌||◌, ◌==◌, [], ◌∷◌, ◌++◌, ◌∙◌, Bool, List, None, Option, Some, ap, ap₂, codes}
+use Rattle.std.proofs.Common.{drop, false, length, not, refl, suc, sym, true, zero, ℕ}
 use Rattle.std.proofs.lemmas.Bool.{both_ways, eq-eqb, ne_eqb}
 use Rattle.std.specs.Char.{to_ascii_lowercase}
 use Rattle.std.specs.Prelude.{if◌then◌else◌}
 use Rattle.lex_base.specs.References.{References}
 use Rattle.html_lexemes.specs.declared.token.Doctype.{Doctype}
 use Rattle.token_grammar.specs.Characters.{is_space, name_of, shown_text}
-use Rattle.token_grammar.specs.Doctypes.{DoctypeEnd, behind_identifier, behind_keyword, behind_public, behind_spaces}
-use Rattle.token_grammar.specs.Doctypes.{behind_system, closed_public, closed_system, doctype_at, ends_here}
+use Rattle.token_grammar.specs.Doctypes.{DoctypeEnd, after_identifier, after_keyword, after_public, after_spaces}
+use Rattle.token_grammar.specs.Doctypes.{after_system, closed_public, closed_system, doctype_at, ends_here}
 use Rattle.token_grammar.specs.Doctypes.{ends_identifier, identifier, is_quote, named_doctype, public_at, skipped}
 use Rattle.token_grammar.specs.Doctypes.{system_at, system_or, with_public, with_quirks, with_system}
 use Rattle.token_grammar.specs.Lexemes.{doctype_lexeme}
@@ -17,7 +17,7 @@ use Rattle.token_grammar.specs.Tags.{ends_unquoted, without_spaces}
 use Rattle.token_grammar.specs.declared.modes.Mode.{Mode}
 use Rattle.token_states.specs.MarkupSound.{HasNoGreater}
 use Rattle.token_states.specs.Turns.{IsOver}
-use Rattle.token_states.specs.declared.place.Place.TheVariants.{Doctype as DoctypePlace}
+use Rattle.token_states.specs.declared.place.LexemeState.TheVariants.{Doctype as DoctypePlace}
 use Rattle.token_states.proofs.MarkupHeld.{cut_greater, first_of, held_more, over_by}
 
 -- ---- slices before the `>`
@@ -108,19 +108,19 @@ stops_ends_here d (h ∷ hs) n =
     (λ e. absurd (both_ways ((h == 62) && true) (ap (λ b. b && true) (first_of h hs n).0) e))
     (λ e. stops_skipped (with_quirks d) (h ∷ hs) n)
 
-stops_behind_system : (d : Doctype) → StopsAlways (behind_system d)
-stops_behind_system d [] n = stops_skipped d [] n
-stops_behind_system d (h ∷ hs) n = stops_skipped d (h ∷ hs) n
+stops_after_system : (d : Doctype) → StopsAlways (after_system d)
+stops_after_system d [] n = stops_skipped d [] n
+stops_after_system d (h ∷ hs) n = stops_skipped d (h ∷ hs) n
 
 stops_closed_system : (q : ℕ) (d : Doctype) → (62 == q) ≡ false → StopsAlways (closed_system q d)
 stops_closed_system q d a [] n =
     stops_as (closed_system q d) (skipped (with_quirks d)) []
-    [] (λ more. ap (λ b. if b && true then behind_system d (without_spaces more)
+    [] (λ more. ap (λ b. if b && true then after_system d (without_spaces more)
     else skipped (with_quirks d) (62 ∷ more)) a) (stops_skipped (with_quirks d) [] n)
 stops_closed_system q d a (h ∷ hs) n =
-    stops_if ((h == q) && true) (closed_system q d) (λ cs. behind_system d (without_spaces (drop 1 cs)))
+    stops_if ((h == q) && true) (closed_system q d) (λ cs. after_system d (without_spaces (drop 1 cs)))
     (skipped (with_quirks d)) (h ∷ hs) (λ more. refl)
-    (λ e. over_spaces (behind_system d) (stops_behind_system d) hs (first_of h hs n).1)
+    (λ e. over_spaces (after_system d) (stops_after_system d) hs (first_of h hs n).1)
     (λ e. stops_skipped (with_quirks d) (h ∷ hs) n)
 
 goes_on_not : (q : ℕ) → (62 == q) ≡ false → not (ends_identifier q 62) ≡ false
@@ -129,10 +129,10 @@ goes_on_not q a = ap (λ b. not (b || true)) a
 stops_system_at : (d : Doctype) (q : ℕ) → (62 == q) ≡ false → StopsAlways (system_at d q)
 stops_system_at d q a hs n =
     let p : ℕ → Bool = λ c. not (ends_identifier q c) in
-    stops_as (system_at d q) (closed_system q (with_system d (identifier q hs))) hs (behind_identifier q hs)
+    stops_as (system_at d q) (closed_system q (with_system d (identifier q hs))) hs (after_identifier q hs)
     (λ more. ap₂ (λ front rest. closed_system q (with_system d (shown_text front)) rest)
     (front_seam p hs more (goes_on_not q a)) (rest_seam p hs more (goes_on_not q a)))
-    (stops_closed_system q (with_system d (identifier q hs)) a (behind_identifier q hs) (rest_none p hs n))
+    (stops_closed_system q (with_system d (identifier q hs)) a (after_identifier q hs) (rest_none p hs n))
 
 no_quote : (q : ℕ) → is_quote q ≡ true → (62 == q) ≡ false
 no_quote q e = ne_eqb 62 q (λ s. both_ways (is_quote q) (ap is_quote (sym s)) e)
@@ -161,76 +161,76 @@ stops_closed_public q d a (h ∷ hs) n =
 stops_public_at : (d : Doctype) (q : ℕ) → (62 == q) ≡ false → StopsAlways (public_at d q)
 stops_public_at d q a hs n =
     let p : ℕ → Bool = λ c. not (ends_identifier q c) in
-    stops_as (public_at d q) (closed_public q (with_public d (identifier q hs))) hs (behind_identifier q hs)
+    stops_as (public_at d q) (closed_public q (with_public d (identifier q hs))) hs (after_identifier q hs)
     (λ more. ap₂ (λ front rest. closed_public q (with_public d (shown_text front)) rest)
     (front_seam p hs more (goes_on_not q a)) (rest_seam p hs more (goes_on_not q a)))
-    (stops_closed_public q (with_public d (identifier q hs)) a (behind_identifier q hs) (rest_none p hs n))
+    (stops_closed_public q (with_public d (identifier q hs)) a (after_identifier q hs) (rest_none p hs n))
 
-stops_behind_public : (d : Doctype) → StopsAlways (behind_public d)
-stops_behind_public d [] n =
-    stops_as (behind_public d) (skipped (with_quirks d)) [] [] (λ more. refl) (stops_skipped (with_quirks d) [] n)
-stops_behind_public d (h ∷ hs) n =
-    stops_if (is_quote h) (behind_public d) (λ cs. public_at d h (drop 1 cs)) (skipped (with_quirks d)) (h ∷ hs)
+stops_after_public : (d : Doctype) → StopsAlways (after_public d)
+stops_after_public d [] n =
+    stops_as (after_public d) (skipped (with_quirks d)) [] [] (λ more. refl) (stops_skipped (with_quirks d) [] n)
+stops_after_public d (h ∷ hs) n =
+    stops_if (is_quote h) (after_public d) (λ cs. public_at d h (drop 1 cs)) (skipped (with_quirks d)) (h ∷ hs)
     (λ more. refl)
     (λ e. stops_as (λ cs. public_at d h (drop 1 cs)) (public_at d h) (h ∷ hs) hs (λ more. refl)
     (stops_public_at d h (no_quote h e) hs (first_of h hs n).1))
     (λ e. stops_skipped (with_quirks d) (h ∷ hs) n)
 
 -- after a word of a doctype
-stops_behind_word : (ws : List ℕ) (f : List ℕ → DoctypeEnd) (hs : List ℕ) → StopsAlways f → HasNoGreater hs →
+stops_after_word : (ws : List ℕ) (f : List ℕ → DoctypeEnd) (hs : List ℕ) → StopsAlways f → HasNoGreater hs →
     begins_word ws hs ≡ true → Stops (λ cs. f (without_spaces (drop (length ws) cs))) hs
-stops_behind_word ws f hs s n e =
+stops_after_word ws f hs s n e =
     stops_as (λ cs. f (without_spaces (drop (length ws) cs))) (λ cs. f (without_spaces cs)) hs (drop (length ws) hs)
     (λ more. ap (λ l. f (without_spaces l)) (word_drop ws hs more e))
     (over_spaces f s (drop (length ws) hs) (drop_none (length ws) hs n))
 
-behind_system_word : Doctype → List ℕ → DoctypeEnd
-behind_system_word d cs = if begins_word (codes "system") cs then
+after_system_word : Doctype → List ℕ → DoctypeEnd
+after_system_word d cs = if begins_word (codes "system") cs then
     system_or d (skipped (with_quirks d)) (without_spaces (drop 6 cs)) else ends_here d cs
 
-stops_system_word : (d : Doctype) → StopsAlways (behind_system_word d)
-unfolding behind_system_word
+stops_system_word : (d : Doctype) → StopsAlways (after_system_word d)
+unfolding after_system_word
 stops_system_word d hs n =
-    stops_if (begins_word (codes "system") hs) (behind_system_word d)
+    stops_if (begins_word (codes "system") hs) (after_system_word d)
     (λ cs. system_or d (skipped (with_quirks d)) (without_spaces (drop 6 cs))) (ends_here d) hs
     (λ more. ap (λ b. if b then system_or d (skipped (with_quirks d)) (without_spaces (drop 6 (hs ++ 62 ∷ more)))
     else ends_here d (hs ++ 62 ∷ more)) (word_seam (codes "system") hs more refl))
-    (stops_behind_word (codes "system") (system_or d (skipped (with_quirks d))) hs
+    (stops_after_word (codes "system") (system_or d (skipped (with_quirks d))) hs
     (stops_system_or d (skipped (with_quirks d)) (stops_skipped (with_quirks d))) n)
     (λ e. stops_ends_here d hs n)
 
-stops_behind_keyword : (d : Doctype) → StopsAlways (behind_keyword d)
-unfolding behind_system_word
-stops_behind_keyword d hs n =
-    stops_if (begins_word (codes "public") hs) (behind_keyword d) (λ cs. behind_public d (without_spaces (drop 6 cs)))
-    (behind_system_word d) hs
-    (λ more. ap (λ b. if b then behind_public d (without_spaces (drop 6 (hs ++ 62 ∷ more)))
-    else behind_system_word d (hs ++ 62 ∷ more)) (word_seam (codes "public") hs more refl))
-    (stops_behind_word (codes "public") (behind_public d) hs (stops_behind_public d) n)
+stops_after_keyword : (d : Doctype) → StopsAlways (after_keyword d)
+unfolding after_system_word
+stops_after_keyword d hs n =
+    stops_if (begins_word (codes "public") hs) (after_keyword d) (λ cs. after_public d (without_spaces (drop 6 cs)))
+    (after_system_word d) hs
+    (λ more. ap (λ b. if b then after_public d (without_spaces (drop 6 (hs ++ 62 ∷ more)))
+    else after_system_word d (hs ++ 62 ∷ more)) (word_seam (codes "public") hs more refl))
+    (stops_after_word (codes "public") (after_public d) hs (stops_after_public d) n)
     (λ e. stops_system_word d hs n)
 
 abbrev in_name : ℕ → Bool
 in_name c = not (ends_unquoted c)
 
-stops_behind_spaces : StopsAlways behind_spaces
-stops_behind_spaces hs n =
+stops_after_spaces : StopsAlways after_spaces
+stops_after_spaces hs n =
     let name = front_while in_name hs in
     let keyword : List ℕ → DoctypeEnd =
-    λ cs. behind_keyword (named_doctype (Some (name_of name))) (without_spaces cs) in
-    stops_if (length name == 0) behind_spaces (skipped (with_quirks (named_doctype None)))
+    λ cs. after_keyword (named_doctype (Some (name_of name))) (without_spaces cs) in
+    stops_if (length name == 0) after_spaces (skipped (with_quirks (named_doctype None)))
     (λ cs. keyword (rest_while in_name cs)) hs
     (λ more. ap (λ l. if length l == 0 then skipped (with_quirks (named_doctype None)) (hs ++ 62 ∷ more)
-    else behind_keyword (named_doctype (Some (name_of l))) (without_spaces (rest_while in_name (hs ++ 62 ∷ more))))
+    else after_keyword (named_doctype (Some (name_of l))) (without_spaces (rest_while in_name (hs ++ 62 ∷ more))))
     (front_seam in_name hs more refl))
     (λ e. stops_skipped (with_quirks (named_doctype None)) hs n)
     (λ e. stops_as (λ cs. keyword (rest_while in_name cs)) keyword hs (rest_while in_name hs)
     (λ more. ap keyword (rest_seam in_name hs more refl))
-    (over_spaces (behind_keyword (named_doctype (Some (name_of name))))
-    (stops_behind_keyword (named_doctype (Some (name_of name)))) (rest_while in_name hs) (rest_none in_name hs n)))
+    (over_spaces (after_keyword (named_doctype (Some (name_of name))))
+    (stops_after_keyword (named_doctype (Some (name_of name)))) (rest_while in_name hs) (rest_none in_name hs n)))
 
 pub doctype_stops : (hs : List ℕ) → HasNoGreater hs →
     (doctype : Doctype) × ((more : List ℕ) → doctype_at (hs ++ 62 ∷ more) ≡ record { doctype = doctype; rest = more })
-doctype_stops hs n = over_spaces behind_spaces stops_behind_spaces hs n
+doctype_stops hs n = over_spaces after_spaces stops_after_spaces hs n
 
 pub doctype_over : (table : References) (foreign : Bool) (mode : Mode) (hs now : List ℕ) → HasNoGreater hs →
     now ≡ hs ++ 62 ∷ [] → IsOver table foreign mode DoctypePlace now []

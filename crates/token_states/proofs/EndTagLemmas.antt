@@ -1,8 +1,8 @@
 -- The turn at `</` and letters.
-use Rattle.std.proofs.Common.{◌≡◌, ℕ, Bool, true, false, not, ◌==◌, ◌&&◌, nat_lt, List, [], ◌∷◌, ◌++◌, length, drop}
-use Rattle.std.proofs.Common.{codes, Option, Some, None, option_map, append-nil, IsUtf8, refl, sym, ap, subst, ◌∙◌}
-use Rattle.std.proofs.Common.{arith}
-use Rattle.std.proofs.lemmas.Bool.{and_from, and_parts, and_left, and_right, eqb-true, eq-eqb, both_ways}
+use Rattle.std.proofs.Common.{◌≡◌, ◌==◌, ◌&&◌, [], ◌∷◌, ◌++◌, ◌∙◌, Bool, IsUtf8, List, None, Option, Some, ap}
+use Rattle.std.proofs.Common.{append-nil, arith, codes, drop, false, length, nat_lt, not, option_map, refl, subst, sym}
+use Rattle.std.proofs.Common.{true, ℕ}
+use Rattle.std.proofs.lemmas.Bool.{and_from, and_left, and_parts, and_right, both_ways, eq-eqb, eqb-true}
 use Rattle.std.proofs.lemmas.Bool.{false_from_ne_true, lt-ltb}
 use Rattle.std.proofs.lemmas.Bool.Decides.{nat_tests}
 use Rattle.std.specs.Char.{is_ascii_alphabetic, to_ascii_lowercase}
@@ -17,7 +17,7 @@ use Rattle.html_lexemes.specs.declared.states.ScriptEscapeKind.TheVariants.{Esca
 use Rattle.html_lexemes.specs.declared.token.TagKind.{TagKind}
 use Rattle.html_lexemes.specs.declared.token.TagKind.TheVariants.{EndTag as EndTagKind}
 use Rattle.token_grammar.specs.Characters.{is_letter, name_of, shown}
-use Rattle.token_grammar.specs.Lexemes.{ends_raw_text, has_end_tags, is_last, kind_behind, named_end_tag}
+use Rattle.token_grammar.specs.Lexemes.{ends_raw_text, has_end_tags, is_last, kind_after, named_end_tag}
 use Rattle.token_grammar.specs.Slices.{after, begins, first_passes, front_while, rest_while}
 use Rattle.token_grammar.specs.Tags.{ends_tag_name, tag_end, tag_of}
 use Rattle.token_grammar.specs.declared.modes.Mode.{Mode}
@@ -83,7 +83,7 @@ slash_plain Rawtext = refl
 slash_plain ScriptData = refl
 slash_plain (ScriptDataEscaped _) = refl
 
-pub slash_same : (kind : RawKind) (cs : List ℕ) → has_end_tags kind ≡ true → kind_behind kind (60 ∷ 47 ∷ cs) ≡ kind
+pub slash_same : (kind : RawKind) (cs : List ℕ) → has_end_tags kind ≡ true → kind_after kind (60 ∷ 47 ∷ cs) ≡ kind
 slash_same Rcdata cs h = refl
 slash_same Rawtext cs h = refl
 slash_same ScriptData cs h = refl
@@ -285,10 +285,10 @@ named_here last letters rest c h n =
     let front : front_while is_letter (letters ++ c ∷ rest) ≡ letters =
     front_on is_letter letters (c ∷ rest) h ∙ ap (λ l. letters ++ l) (front_off is_letter c rest n) ∙
     append-nil letters in
-    let behind : rest_while is_letter (letters ++ c ∷ rest) ≡ c ∷ rest =
+    let trailing : rest_while is_letter (letters ++ c ∷ rest) ≡ c ∷ rest =
     rest_on is_letter letters (c ∷ rest) h ∙ rest_off is_letter c rest n in
     sym (ap (λ f. named_end_tag last f (rest_while is_letter (letters ++ c ∷ rest))) front ∙
-    ap (named_end_tag last letters) behind)
+    ap (named_end_tag last letters) trailing)
 
 pub name_goes_on : (table : References) (mode : Mode) (kind : RawKind) (letters : List ℕ) (c : ℕ) →
     has_end_tags kind ≡ true → list_all is_letter letters ≡ true → is_letter c ≡ false → ends_tag_name c ≡ false →

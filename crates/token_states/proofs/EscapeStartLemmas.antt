@@ -1,6 +1,6 @@
 -- The turn at `<!` or `<!-` of script data.
-use Rattle.std.proofs.Common.{◌≡◌, ◌≢◌, ◌⊎◌, inl, inr, ℕ, true, ◌==◌, ◌&&◌, List, [], ◌∷◌, ◌++◌, length, codes, IsUtf8}
-use Rattle.std.proofs.Common.{encode_utf8_all, refl, sym, ap, subst, ◌∙◌, arith}
+use Rattle.std.proofs.Common.{◌≡◌, ◌≢◌, ◌⊎◌, ◌==◌, ◌&&◌, [], ◌∷◌, ◌++◌, ◌∙◌, IsUtf8, List, ap, arith, codes}
+use Rattle.std.proofs.Common.{encode_utf8_all, inl, inr, length, refl, subst, sym, true, ℕ}
 use Rattle.std.proofs.lemmas.Bool.{and_from, and_parts, and_left, eqb-true, ne_eqb}
 use Rattle.std.proofs.lemmas.Str.{encodes-chars}
 use Rattle.std.specs.Str.{chars}

@@ -1,6 +1,6 @@
 -- The turn in the word that begins the other escaped part.
-use Rattle.std.proofs.Common.{◌≡◌, ◌≢◌, ℕ, Bool, true, false, ◌==◌, ◌&&◌, nat_lt, List, [], ◌∷◌, ◌++◌, length, codes}
-use Rattle.std.proofs.Common.{Option, IsUtf8, length-append, refl, sym, ap, subst, ◌∙◌, arith}
+use Rattle.std.proofs.Common.{◌≡◌, ◌≢◌, ◌==◌, ◌&&◌, [], ◌∷◌, ◌++◌, ◌∙◌, Bool, IsUtf8, List, Option, ap, arith, codes}
+use Rattle.std.proofs.Common.{false, length, length-append, nat_lt, refl, subst, sym, true, ℕ}
 use Rattle.std.proofs.lemmas.Bool.{and_from, and_parts, and_left}
 use Rattle.std.proofs.lemmas.Bool.Decides.{nat_tests}
 use Rattle.std.specs.Char.{to_ascii_lowercase}
@@ -10,7 +10,7 @@ use Rattle.lex_base.specs.References.{References}
 use Rattle.html_lexemes.specs.declared.states.RawKind.{RawKind}
 use Rattle.html_lexemes.specs.declared.states.RawKind.TheVariants.{Rcdata, Rawtext, ScriptData, ScriptDataEscaped}
 use Rattle.html_lexemes.specs.declared.states.ScriptEscapeKind.TheVariants.{Escaped, DoubleEscaped}
-use Rattle.token_grammar.specs.Lexemes.{begins_tag, ends_raw_text, has_end_tags, kind_behind}
+use Rattle.token_grammar.specs.Lexemes.{begins_tag, ends_raw_text, has_end_tags, kind_after}
 use Rattle.token_grammar.specs.Slices.{begins}
 use Rattle.token_grammar.specs.Tags.{ends_tag_name}
 use Rattle.token_grammar.specs.declared.modes.Mode.{Mode}
@@ -95,7 +95,7 @@ word_ascii (ScriptDataEscaped Escaped) = refl
 word_ascii (ScriptDataEscaped DoubleEscaped) = refl
 
 pub stays : (kind : RawKind) (cs : List ℕ) → is_escaped kind ≡ true → begins (codes "-->") cs ≡ false →
-    begins_tag (word_of kind) cs ≡ false → kind_behind kind cs ≡ kind
+    begins_tag (word_of kind) cs ≡ false → kind_after kind cs ≡ kind
 stays Rcdata cs e a b = absurd cc
 stays Rawtext cs e a b = absurd cc
 stays ScriptData cs e a b = absurd cc
@@ -103,7 +103,7 @@ stays (ScriptDataEscaped Escaped) cs e a b = sym (doubled cs false a b)
 stays (ScriptDataEscaped DoubleEscaped) cs e a b = sym (undoubled cs false a b)
 
 pub changes : (kind : RawKind) (cs : List ℕ) → is_escaped kind ≡ true → begins (codes "-->") cs ≡ false →
-    begins_tag (word_of kind) cs ≡ true → kind_behind kind cs ≡ other_part kind
+    begins_tag (word_of kind) cs ≡ true → kind_after kind cs ≡ other_part kind
 changes Rcdata cs e a b = absurd cc
 changes Rawtext cs e a b = absurd cc
 changes ScriptData cs e a b = absurd cc
@@ -143,15 +143,15 @@ module _ (kind : RawKind) (held : List ℕ) (c : ℕ) (u : IsUtf8 held) (h : is_
       (and_parts (nat_lt 1 (length (chars held))) (is_word_front (word_of kind) (chars held)) in_word).0)
       (front_more (word_of kind) (chars held) c is_front (at_end true e)))
 
-  before : (table : References) (mode : Mode) (behind : RawKind) →
+  before : (table : References) (mode : Mode) (trailing : RawKind) →
       ((rest : List ℕ) → begins (codes "-->") (chars held ++ c ∷ rest) ≡ false →
-      kind_behind kind (chars held ++ c ∷ rest) ≡ behind) → IsTextBefore table mode kind (chars held) behind c
-  before table mode behind k =
+      kind_after kind (chars held ++ c ∷ rest) ≡ trailing) → IsTextBefore table mode kind (chars held) trailing c
+  before table mode trailing k =
       let t = sign_and_text kind (chars held) in_escaped in_word in
-      subst (λ l. IsTextBefore table mode kind l behind c) (sym t.is) (λ rest.
-      sign_text table mode kind behind t.text (c ∷ rest) (t.no_end mode.last_start_tag (c ∷ rest))
-      (ap (λ l. kind_behind kind (l ++ c ∷ rest)) (sym t.is) ∙
-      k rest (ap (λ l. begins (codes "-->") (l ++ c ∷ rest)) t.is)) (t.plain behind))
+      subst (λ l. IsTextBefore table mode kind l trailing c) (sym t.is) (λ rest.
+      sign_text table mode kind trailing t.text (c ∷ rest) (t.no_end mode.last_start_tag (c ∷ rest))
+      (ap (λ l. kind_after kind (l ++ c ∷ rest)) (sym t.is) ∙
+      k rest (ap (λ l. begins (codes "-->") (l ++ c ∷ rest)) t.is)) (t.plain trailing))
 
   pub word_stops : length held ≢ length word → is_at (to_ascii_lowercase c) word (length held) ≡ false →
       (table : References) (mode : Mode) → IsTextBefore table mode kind (chars held) kind c

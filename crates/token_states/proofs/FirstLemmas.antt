@@ -9,8 +9,8 @@ use Rattle.html_lexemes.specs.declared.states.RawKind.TheVariants.{Rcdata, Rawte
 use Rattle.html_lexemes.specs.declared.states.ScriptEscapeKind.TheVariants.{Escaped, DoubleEscaped}
 use Rattle.token_grammar.specs.Characters.{shown}
 use Rattle.token_grammar.specs.Items.{characters}
-use Rattle.token_grammar.specs.Lexemes.{ends_raw_text, has_end_tags, has_references, in_kind, kind_behind, lexeme}
-use Rattle.token_grammar.specs.Lexemes.{lexeme_in, one_character, raw_lexeme, reference_lexeme, told}
+use Rattle.token_grammar.specs.Lexemes.{emitted, ends_raw_text, has_end_tags, has_references, in_kind, kind_after}
+use Rattle.token_grammar.specs.Lexemes.{lexeme, lexeme_in, one_character, raw_lexeme, reference_lexeme}
 use Rattle.token_grammar.specs.References.{reference}
 use Rattle.token_grammar.specs.declared.modes.Mode.{Mode}
 use Rattle.token_grammar.specs.declared.modes.TextKind.TheVariants.{Raw}
@@ -44,7 +44,7 @@ no_end last (ScriptDataEscaped part) c rest e =
     and_left (c == 60 && has_end_tags (ScriptDataEscaped part)) _ (and_left (c == 60) _ (and_true (c == 60) e))
 
 same_kind : (last : Option (List ℕ)) (kind : RawKind) (c : ℕ) (rest : List ℕ) → (c == 60 && may_begin last kind)
-    ≡ false → (c == 45 && is_escaped kind) ≡ false → kind_behind kind (c ∷ rest) ≡ kind
+    ≡ false → (c == 45 && is_escaped kind) ≡ false → kind_after kind (c ∷ rest) ≡ kind
 same_kind last Rcdata c rest a b = refl
 same_kind last Rawtext c rest a b = refl
 same_kind last ScriptData c rest a b = rw (and_true (c == 60) a) refl
@@ -56,7 +56,7 @@ same_kind last (ScriptDataEscaped DoubleEscaped) c rest a b =
 raw_first : (table : References) (kind : RawKind) (mode : Mode) (c : ℕ) (rest : List ℕ) →
     (c == 60 && may_begin mode.last_start_tag kind) ≡ false → (c == 38 && has_references kind) ≡ false →
     (c == 45 && is_escaped kind) ≡ false → mode.text ≡ Raw kind →
-    raw_lexeme table kind mode c rest ≡ told (characters (shown c ∷ []) ∷ []) mode rest
+    raw_lexeme table kind mode c rest ≡ emitted (characters (shown c ∷ []) ∷ []) mode rest
 raw_first table kind mode c rest a b d m =
     sym (chosen_false (c == 60 && has_end_tags kind && ends_raw_text mode.last_start_tag rest) _ _
     (no_end mode.last_start_tag kind c rest a))
@@ -77,11 +77,11 @@ pub raw_first_in : (table : References) (foreign : Bool) (last : Option (List �
     (c d : ℕ) (rest : List ℕ) → d ≡ shown c → (c == 60 && may_begin last kind) ≡ false →
     (c == 38 && has_references kind) ≡ false → (c == 45 && is_escaped kind) ≡ false → mode.text ≡ Raw kind →
     mode.last_start_tag ≡ last →
-    lexeme table foreign mode (c ∷ rest) ≡ told (characters (d ∷ []) ∷ []) mode rest
+    lexeme table foreign mode (c ∷ rest) ≡ emitted (characters (d ∷ []) ∷ []) mode rest
 raw_first_in table foreign last kind mode c d rest s a b e m l =
     ap (λ t. lexeme_in table foreign t mode c rest) m
     ∙ (raw_first table kind mode c rest (ap (λ o. c == 60 && may_begin o kind) l ∙ a) b e m ∙
-    ap (λ x. told (characters (x ∷ []) ∷ []) mode rest) (sym s))
+    ap (λ x. emitted (characters (x ∷ []) ∷ []) mode rest) (sym s))
 
 -- `&`, which is no `<`
 not_sign : (c : ℕ) (b d : Bool) → (c == 38 && b) ≡ true → (c == 60 && d) ≡ false

@@ -4,10 +4,11 @@ use Rattle.lex_base.specs.References.{References}
 use Rattle.token_grammar.specs.declared.modes.Mode.{Mode}
 use Rattle.token_states.specs.Goings.{IsGoing}
 use Rattle.token_states.specs.OpenEnds.{IsOpenEnded}
-use Rattle.token_states.specs.declared.place.Place.{Place}
-use Rattle.token_states.specs.declared.place.Place.TheVariants.{Text, CharacterReference, TagOpen, EndTagOpen, Tag}
-use Rattle.token_states.specs.declared.place.Place.TheVariants.{MarkupDeclarationOpen, BogusComment, Comment, Doctype}
-use Rattle.token_states.specs.declared.place.Place.TheVariants.{CdataSection, RawText}
+use Rattle.token_states.specs.declared.place.LexemeState.{LexemeState}
+use Rattle.token_states.specs.declared.place.LexemeState.TheVariants.{BogusComment, CdataSection, CharacterReference}
+use Rattle.token_states.specs.declared.place.LexemeState.TheVariants.{Comment, Doctype, EndTagOpen}
+use Rattle.token_states.specs.declared.place.LexemeState.TheVariants.{MarkupDeclarationOpen, RawText, Tag, TagOpen}
+use Rattle.token_states.specs.declared.place.LexemeState.TheVariants.{Text}
 use Rattle.token_states.proofs.MarkupOpenEnds.{bogus_comment_undecided, comment_undecided, declaration_undecided}
 use Rattle.token_states.proofs.MarkupOpenEnds.{doctype_undecided, end_tag_open_undecided, section_undecided}
 use Rattle.token_states.proofs.MarkupOpenEnds.{tag_open_undecided, tag_undecided, text_undecided}
@@ -15,7 +16,7 @@ use Rattle.token_states.proofs.RawOpenEnds.{raw_open}
 use Rattle.token_states.proofs.ReferenceNames.{AreNames}
 use Rattle.token_states.proofs.ReferenceOpenEnds.{references_open}
 
-pub going_open : (table : References) (foreign : Bool) (mode : Mode) (place : Place) (held : List ℕ) → AreNames table →
+pub going_open : (table : References) (foreign : Bool) (mode : Mode) (place : LexemeState) (held : List ℕ) → AreNames table →
     IsGoing table mode.last_start_tag place held → IsOpenEnded table foreign mode place held
 going_open table foreign mode Text held law h = text_undecided table foreign mode held h
 going_open table foreign mode (CharacterReference place) held law h =

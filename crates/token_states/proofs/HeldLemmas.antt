@@ -1,6 +1,6 @@
 -- Changes to a text that is held, by its characters.
-use Rattle.std.proofs.Common.{◌≡◌, ℕ, if◌then◌else◌, List, [], ◌∷◌, ◌++◌, length, drop, codes, IsUtf8, Result, Ok, Err}
-use Rattle.std.proofs.Common.{OnOk, is_ok, sym, ap, ◌∙◌}
+use Rattle.std.proofs.Common.{◌≡◌, if◌then◌else◌, [], ◌∷◌, ◌++◌, ◌∙◌, Err, IsUtf8, List, Ok, OnOk, Result, ap, codes}
+use Rattle.std.proofs.Common.{drop, is_ok, length, sym, ℕ}
 use Rattle.std.proofs.lemmas.Str.{chars-append, chars_past_char}
 use Rattle.std.specs.Char.{IsScalar}
 use Rattle.std.specs.Str.{chars}

@@ -1,8 +1,7 @@
 -- A run that is free of the stops of a place is held there.
-use Rattle.std.proofs.Common.{◌≡◌, ◌≢◌, ◌∙◌, ap, refl, subst, sym, inl, inr}
-use Rattle.std.proofs.Common.{ℕ, Bool, true, false, not, ◌==◌, ◌&&◌, IsTrue}
-use Rattle.std.proofs.Common.{List, [], ◌∷◌, ◌++◌, append_assoc, append-nil, codes, drop}
-use Rattle.std.proofs.Common.{Option, Some, None, MatchOption, option_map, if◌then◌else◌}
+use Rattle.std.proofs.Common.{◌≡◌, ◌≢◌, ◌∙◌, ◌==◌, ◌&&◌, [], ◌∷◌, ◌++◌, if◌then◌else◌, Bool, IsTrue, List, MatchOption}
+use Rattle.std.proofs.Common.{None, Option, Some, ap, append-nil, append_assoc, codes, drop, false, inl, inr, not}
+use Rattle.std.proofs.Common.{option_map, refl, subst, sym, true, ℕ}
 use Rattle.std.proofs.lemmas.Bool.{and_from, and_parts, cases_Bool, eq-eqb, eqb-true, false≢true}
 use Rattle.std.proofs.lemmas.List.Folds.{list_all-append}
 use Rattle.std.specs.List.{list_all}
@@ -12,22 +11,22 @@ use Rattle.html_lexemes.specs.declared.states.AttrValueKind.TheVariants.{Unquote
 use Rattle.html_lexemes.specs.declared.token.Tag.{Tag as SeenTag}
 use Rattle.html_lexemes.specs.declared.token.TagKind.{TagKind}
 use Rattle.token_grammar.specs.Slices.{Cut, after, cut, cut_here, longer, rest_while}
-use Rattle.token_grammar.specs.Tags.{ends_attribute_name, ends_tag_name, ends_unquoted, tag_at, value_behind}
+use Rattle.token_grammar.specs.Tags.{ends_attribute_name, ends_tag_name, ends_unquoted, tag_at, value_after}
 use Rattle.token_grammar.proofs.SliceLemmas.{rest_on}
 use Rattle.token_states.specs.CommentEnds.{IsNotClosed}
 use Rattle.token_states.specs.Goings.{IsGoing}
 use Rattle.token_states.specs.HeldRuns.{held_stops}
 use Rattle.token_states.specs.MarkupSound.{HasNoGreater, IsOpenComment}
 use Rattle.token_states.specs.Sound.{IsSound}
-use Rattle.token_states.specs.TagPlaces.{IsInTag, rest_behind_value, rest_in, tag_rest}
-use Rattle.token_states.specs.declared.place.Place.{Place}
-use Rattle.token_states.specs.declared.place.Place.TheVariants.{Text, CharacterReference, TagOpen, EndTagOpen, Tag}
-use Rattle.token_states.specs.declared.place.Place.TheVariants.{MarkupDeclarationOpen, BogusComment, Comment}
-use Rattle.token_states.specs.declared.place.Place.TheVariants.{Doctype, CdataSection, RawText}
+use Rattle.token_states.specs.TagPlaces.{IsInTag, rest_after_value, rest_in, tag_rest}
+use Rattle.token_states.specs.declared.place.LexemeState.{LexemeState}
+use Rattle.token_states.specs.declared.place.LexemeState.TheVariants.{BogusComment, CdataSection, CharacterReference}
+use Rattle.token_states.specs.declared.place.LexemeState.TheVariants.{Comment, Doctype, EndTagOpen}
+use Rattle.token_states.specs.declared.place.LexemeState.TheVariants.{MarkupDeclarationOpen, RawText, Tag, TagOpen}
+use Rattle.token_states.specs.declared.place.LexemeState.TheVariants.{Text}
 use Rattle.token_states.specs.declared.place.TagPlace.{TagPlace}
-use Rattle.token_states.specs.declared.place.TagPlace.TheVariants.{TagName, BeforeAttributeName, AttributeName}
-use Rattle.token_states.specs.declared.place.TagPlace.TheVariants.{AfterAttributeName, BeforeAttributeValue}
-use Rattle.token_states.specs.declared.place.TagPlace.TheVariants.{AttributeValue}
+use Rattle.token_states.specs.declared.place.TagPlace.TheVariants.{AfterAttributeName, AttributeName, AttributeValue}
+use Rattle.token_states.specs.declared.place.TagPlace.TheVariants.{BeforeAttributeName, BeforeAttributeValue, TagName}
 use Rattle.token_states.proofs.CommentLemmas.{still_open_comment}
 
 -- ---- characters that are no stop
@@ -61,7 +60,7 @@ while_passed p (c ∷ cs) rest all =
     rest_on p c (cs ++ rest) parts.0 ∙ while_passed p cs rest parts.1
 
 longer_rest : (table : References) (c : ℕ) (value : Option Cut) →
-    rest_behind_value table (option_map (longer c) value) ≡ rest_behind_value table value
+    rest_after_value table (option_map (longer c) value) ≡ rest_after_value table value
 longer_rest table c None = refl
 longer_rest table c (Some value) = refl
 
@@ -70,13 +69,13 @@ not_false true e = absurd cc
 not_false false e = refl
 
 quoted_on : (table : References) (q c : ℕ) (cs : List ℕ) → (c == q) ≡ false →
-    rest_behind_value table (cut (after (q ∷ [])) (c ∷ cs)) ≡ rest_behind_value table (cut (after (q ∷ [])) cs)
+    rest_after_value table (cut (after (q ∷ [])) (c ∷ cs)) ≡ rest_after_value table (cut (after (q ∷ [])) cs)
 quoted_on table q c cs e =
-    ap (λ b. rest_behind_value table (cut_here c (if b && true then Some cs else None) (cut (after (q ∷ [])) cs))) e
+    ap (λ b. rest_after_value table (cut_here c (if b && true then Some cs else None) (cut (after (q ∷ [])) cs))) e
     ∙ longer_rest table c (cut (after (q ∷ [])) cs)
 
 quoted_passed : (table : References) (q : ℕ) (cs rest : List ℕ) → list_all (λ c. not (c == q)) cs ≡ true →
-    rest_behind_value table (cut (after (q ∷ [])) (cs ++ rest)) ≡ rest_behind_value table (cut (after (q ∷ [])) rest)
+    rest_after_value table (cut (after (q ∷ [])) (cs ++ rest)) ≡ rest_after_value table (cut (after (q ∷ [])) rest)
 quoted_passed table q [] rest all = refl
 quoted_passed table q (c ∷ cs) rest all =
     let parts = and_parts (not (c == q)) (list_all (λ d. not (d == q)) cs) all in
@@ -129,7 +128,7 @@ name_passed run free table rest =
 attribute_passed : (run : List ℕ) → IsTrue (is_free_of attribute_set run) → Passes AttributeName run
 attribute_passed run free table rest =
     let p : ℕ → Bool = λ c. not (ends_attribute_name c) in
-    ap (λ l. rest_behind_value table (value_behind l))
+    ap (λ l. rest_after_value table (value_after l))
     (while_passed p run rest (each_free attribute_set p in_attribute run free))
 
 value_passed : (run : List ℕ) → IsTrue (is_free_of value_set run) → Passes (AttributeValue Unquoted) run
@@ -188,10 +187,10 @@ abbrev mark_set : List ℕ
 mark_set = 10 ∷ 13 ∷ 62 ∷ []
 
 -- where a place has stops
-abbrev WithStops : Place → (List ℕ → Type 0) → Type 0
+abbrev WithStops : LexemeState → (List ℕ → Type 0) → Type 0
 WithStops place P = MatchOption (held_stops place) (Unit {0}) P
 
-sound_on : (place : Place) (held run : List ℕ) →
+sound_on : (place : LexemeState) (held run : List ℕ) →
     WithStops place (λ stops. IsTrue (is_free_of stops run) → IsSound place held → IsSound place (held ++ run))
 sound_on Text held run = tt
 sound_on (CharacterReference place) held run = tt
@@ -221,7 +220,7 @@ sound_on CdataSection held run = tt
 sound_on (RawText kind place) held run = tt
 
 -- what goes on at a place with stops is sound, and no more is asked of it
-going_on : (table : References) (last : Option (List ℕ)) (place : Place) (held run : List ℕ) →
+going_on : (table : References) (last : Option (List ℕ)) (place : LexemeState) (held run : List ℕ) →
     WithStops place (λ stops. IsTrue (is_free_of stops run) → IsGoing table last place held →
     IsGoing table last place (held ++ run))
 going_on table last Text held run = tt
@@ -246,7 +245,7 @@ going_on table last Doctype held run = sound_on Doctype held run
 going_on table last CdataSection held run = tt
 going_on table last (RawText kind place) held run = tt
 
-no_return : (place : Place) (run : List ℕ) →
+no_return : (place : LexemeState) (run : List ℕ) →
     WithStops place (λ stops. IsTrue (is_free_of stops run) → list_all (λ c. not (c == 13)) run ≡ true)
 no_return Text run = tt
 no_return (CharacterReference place) run = tt
@@ -267,24 +266,24 @@ no_return Doctype run = without mark_set 13 refl run
 no_return CdataSection run = tt
 no_return (RawText kind place) run = tt
 
-at_stops : (P : List ℕ → Type 0) (place : Place) (stops : List ℕ) → held_stops place ≡ Some stops → WithStops place P →
+at_stops : (P : List ℕ → Type 0) (place : LexemeState) (stops : List ℕ) → held_stops place ≡ Some stops → WithStops place P →
     P stops
 at_stops P place stops e h = subst (λ o. MatchOption o (Unit {0}) P) e h
 
-pub run_sound : (place : Place) (stops held run : List ℕ) → held_stops place ≡ Some stops →
+pub run_sound : (place : LexemeState) (stops held run : List ℕ) → held_stops place ≡ Some stops →
     IsTrue (is_free_of stops run) → IsSound place held → IsSound place (held ++ run)
 run_sound place stops held run e free h =
     at_stops (λ s. IsTrue (is_free_of s run) → IsSound place held → IsSound place (held ++ run)) place stops e
     (sound_on place held run) free h
 
-pub run_going : (table : References) (last : Option (List ℕ)) (place : Place) (stops held run : List ℕ) →
+pub run_going : (table : References) (last : Option (List ℕ)) (place : LexemeState) (stops held run : List ℕ) →
     held_stops place ≡ Some stops → IsTrue (is_free_of stops run) → IsGoing table last place held →
     IsGoing table last place (held ++ run)
 run_going table last place stops held run e free h =
     at_stops (λ s. IsTrue (is_free_of s run) → IsGoing table last place held → IsGoing table last place (held ++ run))
     place stops e (going_on table last place held run) free h
 
-pub run_lines : (place : Place) (stops run : List ℕ) → held_stops place ≡ Some stops →
+pub run_lines : (place : LexemeState) (stops run : List ℕ) → held_stops place ≡ Some stops →
     IsTrue (is_free_of stops run) → IsTrue (list_all (λ c. not (c == 13)) run)
 run_lines place stops run e free =
     let none : List ℕ → Type 0 = λ s. IsTrue (is_free_of s run) → list_all (λ c. not (c == 13)) run ≡ true in

@@ -1,6 +1,6 @@
 -- Characters that are held of markup, and markup that is over.
-use Rattle.std.proofs.Common.{◌≡◌, ◌≢◌, ℕ, Bool, true, false, ◌&&◌, ◌==◌, not, List, [], ◌∷◌, ◌++◌, Some, refl, sym, ap}
-use Rattle.std.proofs.Common.{subst, ◌∙◌, append_assoc}
+use Rattle.std.proofs.Common.{◌≡◌, ◌≢◌, ◌&&◌, ◌==◌, [], ◌∷◌, ◌++◌, ◌∙◌, Bool, List, Some, ap, append_assoc, false, not}
+use Rattle.std.proofs.Common.{refl, subst, sym, true, ℕ}
 use Rattle.std.proofs.lemmas.Bool.{and_parts, ne_eqb}
 use Rattle.std.proofs.lemmas.List.{append-nil}
 use Rattle.std.proofs.lemmas.List.Folds.{list_all-append}
@@ -13,14 +13,14 @@ use Rattle.token_grammar.proofs.MarkLemmas.{chars-encode}
 use Rattle.token_grammar.proofs.ValueLemmas.{pushed_text}
 use Rattle.token_grammar.specs.Comments.{bogus_comment_slice}
 use Rattle.token_grammar.specs.Items.{Item}
-use Rattle.token_grammar.specs.Lexemes.{comment_lexeme, told}
+use Rattle.token_grammar.specs.Lexemes.{comment_lexeme, emitted}
 use Rattle.token_grammar.specs.Slices.{after, cut, cut_or_all}
 use Rattle.token_grammar.specs.declared.modes.Mode.{Mode}
 use Rattle.token_states.specs.MarkupSound.{HasNoGreater}
 use Rattle.token_states.specs.Places.{place_lexeme}
 use Rattle.token_states.specs.Turns.{IsOver, IsTaken, LeavesText, with_more}
-use Rattle.token_states.specs.declared.place.Place.{Place}
-use Rattle.token_states.specs.declared.place.Place.TheVariants.{BogusComment}
+use Rattle.token_states.specs.declared.place.LexemeState.{LexemeState}
+use Rattle.token_states.specs.declared.place.LexemeState.TheVariants.{BogusComment}
 
 pub pushed : {Z : Type 0} (old new : String Z) (c : ℕ) → IsScalar c → string_bytes new
     ≡ string_bytes old ++ encode_utf8 c → chars (string_bytes new) ≡ chars (string_bytes old) ++ c ∷ []
@@ -28,17 +28,17 @@ pushed old new c scalar e =
     pushed_text old new (encode_utf8 c) e ∙ ap (λ l. chars (string_bytes old) ++ l) (chars-encode c scalar)
 
 -- a character that is held at the same place
-pub taken : (table : References) (foreign : Bool) (mode : Mode) (place : Place) (hs : List ℕ) (c : ℕ) (now : List ℕ) →
+pub taken : (table : References) (foreign : Bool) (mode : Mode) (place : LexemeState) (hs : List ℕ) (c : ℕ) (now : List ℕ) →
     now ≡ hs ++ c ∷ [] → IsTaken table foreign mode place hs c place now
 taken table foreign mode place hs c now e rest =
     ap (place_lexeme table foreign mode place) (ap (λ l. l ++ rest) e ∙ append_assoc hs (c ∷ []) rest)
 
 -- a lexeme that leaves what follows what is held, whatever that is, is over
-pub over_by : (table : References) (foreign : Bool) (mode : Mode) (place : Place) (now : List ℕ) (items : List Item)
-    (behind : Mode) → ((rest : List ℕ) → place_lexeme table foreign mode place (now ++ rest) ≡ told items behind rest) →
+pub over_by : (table : References) (foreign : Bool) (mode : Mode) (place : LexemeState) (now : List ℕ) (items : List Item)
+    (trailing : Mode) → ((rest : List ℕ) → place_lexeme table foreign mode place (now ++ rest) ≡ emitted items trailing rest) →
     IsOver table foreign mode place now []
-over_by table foreign mode place now items behind h =
-    let alone : place_lexeme table foreign mode place now ≡ told items behind [] =
+over_by table foreign mode place now items trailing h =
+    let alone : place_lexeme table foreign mode place now ≡ emitted items trailing [] =
     ap (place_lexeme table foreign mode place) (sym (append-nil now)) ∙ h [] in
     record { settled = λ rest. h rest ∙ ap (with_more rest) (sym alone); left = subst LeavesText (sym alone) refl }
 

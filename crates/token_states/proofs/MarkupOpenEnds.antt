@@ -1,7 +1,7 @@
 -- What is held of markup is no lexeme yet.
-use Rattle.std.proofs.Common.{◌≡◌, ◌≢◌, ℕ, Bool, true, false, cond, ◌&&◌, ◌==◌, not, List, [], ◌∷◌, ◌++◌, length, drop}
-use Rattle.std.proofs.Common.{codes, Option, Some, None, option_map, IsTrue, refl, sym, ap, subst, ◌∙◌, append_assoc}
-use Rattle.std.proofs.Common.{append-nil}
+use Rattle.std.proofs.Common.{◌≡◌, ◌≢◌, ◌&&◌, ◌==◌, [], ◌∷◌, ◌++◌, ◌∙◌, Bool, IsTrue, List, None, Option, Some, ap}
+use Rattle.std.proofs.Common.{append-nil, append_assoc, codes, cond, drop, false, length, not, option_map, refl, subst}
+use Rattle.std.proofs.Common.{sym, true, ℕ}
 use Rattle.std.proofs.lemmas.Bool.{and_parts, both_ways, eq-eqb, false≢true}
 use Rattle.std.specs.List.{list_all}
 use Rattle.std.specs.Prelude.{if◌then◌else◌, is_some}
@@ -11,11 +11,13 @@ use Rattle.html_lexemes.specs.declared.token.Doctype.{Doctype as SeenDoctype}
 use Rattle.html_lexemes.specs.declared.token.Tag.{Tag as SeenTag}
 use Rattle.html_lexemes.specs.declared.token.TagKind.{TagKind}
 use Rattle.token_grammar.specs.Characters.{is_space, name_of}
-use Rattle.token_grammar.specs.Comments.{bogus_comment_slice, comment_mark, comment_slice, empty_comment, found_or_ended}
-use Rattle.token_grammar.specs.Doctypes.{DoctypeEnd, behind_identifier, behind_keyword, behind_public, behind_system}
+use Rattle.token_grammar.specs.Comments.{bogus_comment_slice, comment_mark, comment_slice, empty_comment}
+use Rattle.token_grammar.specs.Comments.{found_or_ended}
+use Rattle.token_grammar.specs.Doctypes.{DoctypeEnd, after_identifier, after_keyword, after_public, after_system}
 use Rattle.token_grammar.specs.Doctypes.{doctype_at, ends_here, ends_identifier, identifier, is_quote, named_doctype}
-use Rattle.token_grammar.specs.Doctypes.{public_at, skipped, system_at, system_or, with_public, with_quirks, with_system}
-use Rattle.token_grammar.specs.Lexemes.{Lexeme, comment_lexeme, declaration, lexeme_in, nothing, tag_lexeme, told}
+use Rattle.token_grammar.specs.Doctypes.{public_at, skipped, system_at, system_or, with_public, with_quirks}
+use Rattle.token_grammar.specs.Doctypes.{with_system}
+use Rattle.token_grammar.specs.Lexemes.{Lexeme, comment_lexeme, declaration, emitted, lexeme_in, nothing, tag_lexeme}
 use Rattle.token_grammar.specs.Lexemes.{tagged}
 use Rattle.token_grammar.specs.Slices.{after, begins, begins_word, cut, cut_or_all, front_while, rest_while}
 use Rattle.token_grammar.specs.Tags.{ends_unquoted, without_spaces}
@@ -32,13 +34,13 @@ use Rattle.token_states.specs.TagPlaces.{rest_in}
 use Rattle.token_states.specs.Turns.{with_more}
 use Rattle.token_states.specs.declared.declarations.Spelled.{Spelled}
 use Rattle.token_states.specs.declared.declarations.Spelled.TheVariants.{Apart}
-use Rattle.token_states.specs.declared.place.Place.{Place}
-use Rattle.token_states.specs.declared.place.Place.TheVariants.{Text, TagOpen, EndTagOpen, Tag, MarkupDeclarationOpen}
-use Rattle.token_states.specs.declared.place.Place.TheVariants.{BogusComment, Comment, Doctype, CdataSection}
+use Rattle.token_states.specs.declared.place.LexemeState.{LexemeState}
+use Rattle.token_states.specs.declared.place.LexemeState.TheVariants.{BogusComment, CdataSection, Comment, Doctype}
+use Rattle.token_states.specs.declared.place.LexemeState.TheVariants.{EndTagOpen, MarkupDeclarationOpen, Tag, TagOpen}
+use Rattle.token_states.specs.declared.place.LexemeState.TheVariants.{Text}
 use Rattle.token_states.specs.declared.place.TagPlace.{TagPlace}
-use Rattle.token_states.specs.declared.place.TagPlace.TheVariants.{TagName, BeforeAttributeName, AttributeName}
-use Rattle.token_states.specs.declared.place.TagPlace.TheVariants.{AfterAttributeName, BeforeAttributeValue}
-use Rattle.token_states.specs.declared.place.TagPlace.TheVariants.{AttributeValue}
+use Rattle.token_states.specs.declared.place.TagPlace.TheVariants.{AfterAttributeName, AttributeName, AttributeValue}
+use Rattle.token_states.specs.declared.place.TagPlace.TheVariants.{BeforeAttributeName, BeforeAttributeValue, TagName}
 use Rattle.token_states.proofs.CommentLemmas.{still_open_comment}
 use Rattle.token_states.proofs.DeclarationLemmas.{is_bogus, no_greater_begun}
 use Rattle.token_states.proofs.DoctypeEnds.{drop_none, rest_none}
@@ -49,12 +51,12 @@ use Rattle.token_states.proofs.SectionLemmas.{are_two, is_one}
 
 is_nothing : Lexeme → Bool
 is_nothing nothing = true
-is_nothing (told items behind rest) = false
+is_nothing (emitted items trailing rest) = false
 is_nothing (tagged t rest) = false
 
 is_tagged : Lexeme → Bool
 is_tagged nothing = false
-is_tagged (told items behind rest) = false
+is_tagged (emitted items trailing rest) = false
 is_tagged (tagged t rest) = true
 
 -- what follows a lexeme does not matter to what it is
@@ -64,16 +66,16 @@ IsKept is = (more : List ℕ) (l : Lexeme) → is (with_more more l) ≡ is l
 nothing_kept : IsKept is_nothing
 unfolding is_nothing
 nothing_kept more nothing = refl
-nothing_kept more (told items behind rest) = refl
+nothing_kept more (emitted items trailing rest) = refl
 nothing_kept more (tagged t rest) = refl
 
 tagged_kept : IsKept is_tagged
 unfolding is_tagged
 tagged_kept more nothing = refl
-tagged_kept more (told items behind rest) = refl
+tagged_kept more (emitted items trailing rest) = refl
 tagged_kept more (tagged t rest) = refl
 
-module _ (table : References) (foreign : Bool) (mode : Mode) (place : Place) (held : List ℕ) where
+module _ (table : References) (foreign : Bool) (mode : Mode) (place : LexemeState) (held : List ℕ) where
   open_by : (is : Lexeme → Bool) → IsKept is → (one other : List ℕ) → IsTrue (is_steady one) → IsTrue (is_steady other)
       → is (place_lexeme table foreign mode place (held ++ one)) ≡ true →
       is (place_lexeme table foreign mode place (held ++ other)) ≡ false → IsOpenEnded table foreign mode place held
@@ -169,7 +171,7 @@ tag_undecided table foreign mode kind place held sound =
 
 abbrev LeavesNothing : Lexeme → Type 0
 LeavesNothing nothing = ⊥
-LeavesNothing (told items behind rest) = rest ≡ []
+LeavesNothing (emitted items trailing rest) = rest ≡ []
 LeavesNothing (tagged t rest) = ⊥
 
 never_nil : (xs : List ℕ) (c : ℕ) → xs ++ c ∷ [] ≡ [] → ⊥
@@ -178,10 +180,10 @@ never_nil (x ∷ xs) c e = cc
 
 leaves_x : (l : Lexeme) → LeavesNothing (with_more (120 ∷ []) l) → ⊥
 leaves_x nothing h = h
-leaves_x (told items behind rest) h = never_nil rest 120 h
+leaves_x (emitted items trailing rest) h = never_nil rest 120 h
 leaves_x (tagged t rest) h = h
 
-open_by_x : (table : References) (foreign : Bool) (mode : Mode) (place : Place) (held : List ℕ) →
+open_by_x : (table : References) (foreign : Bool) (mode : Mode) (place : LexemeState) (held : List ℕ) →
     LeavesNothing (place_lexeme table foreign mode place (held ++ 120 ∷ [])) → IsOpenEnded table foreign mode place held
 open_by_x table foreign mode place held left l same = leaves_x l (subst LeavesNothing (same (120 ∷ []) refl) left)
 
@@ -317,19 +319,19 @@ ends_here_all d (h ∷ hs) n =
     ap (λ b. (if b && true then record { doctype = d; rest = hs }
     else skipped (with_quirks d) (h ∷ hs)).rest) (first_of h hs n).0 ∙ skipped_all (with_quirks d) (h ∷ hs) n
 
-behind_system_all : (d : SeenDoctype) (hs : List ℕ) → HasNoGreater hs → LeavesNone (behind_system d hs)
-behind_system_all d [] n = refl
-behind_system_all d (h ∷ hs) n = skipped_all d (h ∷ hs) n
+after_system_all : (d : SeenDoctype) (hs : List ℕ) → HasNoGreater hs → LeavesNone (after_system d hs)
+after_system_all d [] n = refl
+after_system_all d (h ∷ hs) n = skipped_all d (h ∷ hs) n
 
 system_at_all : (d : SeenDoctype) (q : ℕ) (hs : List ℕ) → HasNoGreater hs → LeavesNone (system_at d q hs)
 system_at_all d q hs n =
     let seen : SeenDoctype = with_system d (identifier q hs) in
-    let behind : List ℕ = behind_identifier q hs in
-    let none : HasNoGreater behind = rest_none (λ c. not (ends_identifier q c)) hs n in
-    both (begins (q ∷ []) behind) (behind_system seen (without_spaces (drop 1 behind)))
-    (skipped (with_quirks seen) behind)
-    (behind_system_all seen (without_spaces (drop 1 behind)) (spaces_none (drop 1 behind) (drop_none 1 behind none)))
-    (skipped_all (with_quirks seen) behind none)
+    let trailing : List ℕ = after_identifier q hs in
+    let none : HasNoGreater trailing = rest_none (λ c. not (ends_identifier q c)) hs n in
+    both (begins (q ∷ []) trailing) (after_system seen (without_spaces (drop 1 trailing)))
+    (skipped (with_quirks seen) trailing)
+    (after_system_all seen (without_spaces (drop 1 trailing)) (spaces_none (drop 1 trailing) (drop_none 1 trailing none)))
+    (skipped_all (with_quirks seen) trailing none)
 
 abbrev LeavesNoneAlways : (List ℕ → DoctypeEnd) → Type 0
 LeavesNoneAlways f = (hs : List ℕ) → HasNoGreater hs → LeavesNone (f hs)
@@ -343,27 +345,27 @@ system_or_all d otherwise s (h ∷ hs) n =
 public_at_all : (d : SeenDoctype) (q : ℕ) (hs : List ℕ) → HasNoGreater hs → LeavesNone (public_at d q hs)
 public_at_all d q hs n =
     let seen : SeenDoctype = with_public d (identifier q hs) in
-    let behind : List ℕ = behind_identifier q hs in
-    let none : HasNoGreater behind = rest_none (λ c. not (ends_identifier q c)) hs n in
-    both (begins (q ∷ []) behind) (system_or seen (ends_here seen) (without_spaces (drop 1 behind)))
-    (skipped (with_quirks seen) behind)
-    (system_or_all seen (ends_here seen) (ends_here_all seen) (without_spaces (drop 1 behind))
-    (spaces_none (drop 1 behind) (drop_none 1 behind none)))
-    (skipped_all (with_quirks seen) behind none)
+    let trailing : List ℕ = after_identifier q hs in
+    let none : HasNoGreater trailing = rest_none (λ c. not (ends_identifier q c)) hs n in
+    both (begins (q ∷ []) trailing) (system_or seen (ends_here seen) (without_spaces (drop 1 trailing)))
+    (skipped (with_quirks seen) trailing)
+    (system_or_all seen (ends_here seen) (ends_here_all seen) (without_spaces (drop 1 trailing))
+    (spaces_none (drop 1 trailing) (drop_none 1 trailing none)))
+    (skipped_all (with_quirks seen) trailing none)
 
-behind_public_all : (d : SeenDoctype) → LeavesNoneAlways (behind_public d)
-behind_public_all d [] n = skipped_all (with_quirks d) [] n
-behind_public_all d (h ∷ hs) n =
+after_public_all : (d : SeenDoctype) → LeavesNoneAlways (after_public d)
+after_public_all d [] n = skipped_all (with_quirks d) [] n
+after_public_all d (h ∷ hs) n =
     both (is_quote h) (public_at d h hs) (skipped (with_quirks d) (h ∷ hs)) (public_at_all d h hs (first_of h hs n).1)
     (skipped_all (with_quirks d) (h ∷ hs) n)
 
-behind_keyword_all : (d : SeenDoctype) → LeavesNoneAlways (behind_keyword d)
-behind_keyword_all d hs n =
+after_keyword_all : (d : SeenDoctype) → LeavesNoneAlways (after_keyword d)
+after_keyword_all d hs n =
     let word : List ℕ = without_spaces (drop 6 hs) in
     let none : HasNoGreater word = spaces_none (drop 6 hs) (drop_none 6 hs n) in
     let system : DoctypeEnd = system_or d (skipped (with_quirks d)) word in
-    both (begins_word (codes "public") hs) (behind_public d word)
-    (cond (begins_word (codes "system") hs) system (ends_here d hs)) (behind_public_all d word none)
+    both (begins_word (codes "public") hs) (after_public d word)
+    (cond (begins_word (codes "system") hs) system (ends_here d hs)) (after_public_all d word none)
     (both (begins_word (codes "system") hs) system (ends_here d hs)
     (system_or_all d (skipped (with_quirks d)) (skipped_all (with_quirks d)) word none) (ends_here_all d hs n))
 
@@ -372,12 +374,12 @@ doctype_all hs n =
     let spaced : List ℕ = without_spaces hs in
     let none : HasNoGreater spaced = spaces_none hs n in
     let name : List ℕ = front_while (λ c. not (ends_unquoted c)) spaced in
-    let behind : List ℕ = rest_while (λ c. not (ends_unquoted c)) spaced in
+    let trailing : List ℕ = rest_while (λ c. not (ends_unquoted c)) spaced in
     let named : SeenDoctype = named_doctype (Some (name_of name)) in
     both (length name == 0) (skipped (with_quirks (named_doctype None)) spaced)
-    (behind_keyword named (without_spaces behind)) (skipped_all (with_quirks (named_doctype None)) spaced none)
-    (behind_keyword_all named (without_spaces behind)
-    (spaces_none behind (rest_none (λ c. not (ends_unquoted c)) spaced none)))
+    (after_keyword named (without_spaces trailing)) (skipped_all (with_quirks (named_doctype None)) spaced none)
+    (after_keyword_all named (without_spaces trailing)
+    (spaces_none trailing (rest_none (λ c. not (ends_unquoted c)) spaced none)))
 
 pub doctype_undecided : (table : References) (foreign : Bool) (mode : Mode) (held : List ℕ) → IsSound Doctype held →
     IsOpenEnded table foreign mode Doctype held

@@ -1,6 +1,6 @@
 -- What a character after `<` or `</` begins.
-use Rattle.std.proofs.Common.{◌≡◌, ℕ, Bool, true, false, ◌==◌, not, List, [], ◌∷◌, ◌++◌, Option, Some, None, option_map}
-use Rattle.std.proofs.Common.{refl, sym, ap, subst, ◌∙◌}
+use Rattle.std.proofs.Common.{◌≡◌, ◌==◌, [], ◌∷◌, ◌++◌, ◌∙◌, Bool, List, None, Option, Some, ap, false, not, option_map}
+use Rattle.std.proofs.Common.{refl, subst, sym, true, ℕ}
 use Rattle.std.proofs.lemmas.Bool.{both_ways, ne_eqb}
 use Rattle.std.specs.Prelude.{if◌then◌else◌}
 use Rattle.lex_base.specs.References.{References}
@@ -10,14 +10,14 @@ use Rattle.html_lexemes.specs.declared.token.TagKind.TheVariants.{StartTag, EndT
 use Rattle.token_grammar.proofs.LexemeLemmas.{chosen_false, chosen_true}
 use Rattle.token_grammar.specs.Characters.{is_letter}
 use Rattle.token_grammar.specs.Comments.{bogus_comment_slice}
-use Rattle.token_grammar.specs.Lexemes.{behind_slash, comment_lexeme, markup, tag_lexeme}
+use Rattle.token_grammar.specs.Lexemes.{after_slash, comment_lexeme, markup, tag_lexeme}
 use Rattle.token_grammar.specs.Slices.{front_while, rest_while}
 use Rattle.token_grammar.specs.Tags.{TagEnd, ends_tag_name, tag_at, tag_end, tag_of}
 use Rattle.token_grammar.specs.declared.modes.Mode.{Mode}
 use Rattle.token_states.specs.MarkupSound.{HasNoGreater}
 use Rattle.token_states.specs.TagPlaces.{IsInTag}
 use Rattle.token_states.specs.Turns.{IsOver, IsTaken}
-use Rattle.token_states.specs.declared.place.Place.TheVariants.{BogusComment, EndTagOpen, Tag, TagOpen}
+use Rattle.token_states.specs.declared.place.LexemeState.TheVariants.{BogusComment, EndTagOpen, Tag, TagOpen}
 use Rattle.token_states.specs.declared.place.TagPlace.TheVariants.{TagName}
 use Rattle.token_states.proofs.MarkupHeld.{over_by}
 
@@ -66,7 +66,7 @@ pub end_tag_taken : (table : References) (foreign : Bool) (mode : Mode) (hs now 
     hs ≡ [] → now ≡ c ∷ [] → IsTaken table foreign mode EndTagOpen hs c (Tag EndTag TagName) now
 end_tag_taken table foreign mode hs now c l none e rest =
     ap (λ n. tag_lexeme (tag_at table EndTag (n ++ rest))) e
-    ∙ (chosen_true (is_letter c) _ _ l ∙ ap (λ h. behind_slash table mode (h ++ c ∷ rest)) (sym none))
+    ∙ (chosen_true (is_letter c) _ _ l ∙ ap (λ h. after_slash table mode (h ++ c ∷ rest)) (sym none))
 
 -- a question mark, and another character after `</`
 pub question_taken : (table : References) (foreign : Bool) (mode : Mode) (hs now : List ℕ) (c : ℕ) → c ≡ 63 → hs ≡ [] →
@@ -84,10 +84,10 @@ pub slash_taken : (table : References) (foreign : Bool) (mode : Mode) (hs now : 
 slash_taken table foreign mode hs now c l n none e rest =
     ap (λ m. comment_lexeme mode (bogus_comment_slice (m ++ rest))) e
     ∙ (chosen_false (c == 62) _ _ n
-    ∙ (chosen_false (is_letter c) _ _ l ∙ ap (λ h. behind_slash table mode (h ++ c ∷ rest)) (sym none)))
+    ∙ (chosen_false (is_letter c) _ _ l ∙ ap (λ h. after_slash table mode (h ++ c ∷ rest)) (sym none)))
 
 pub slash_over : (table : References) (foreign : Bool) (mode : Mode) (now : List ℕ) (c : ℕ) → c ≡ 62 → now ≡ c ∷ [] →
     IsOver table foreign mode EndTagOpen now []
 slash_over table foreign mode now c g e =
     over_by table foreign mode EndTagOpen now _ mode
-    (λ rest. ap (λ n. behind_slash table mode (n ++ rest)) (e ∙ ap (λ d. d ∷ []) g))
+    (λ rest. ap (λ n. after_slash table mode (n ++ rest)) (e ∙ ap (λ d. d ∷ []) g))

@@ -13,14 +13,15 @@ use Rattle.token_grammar.proofs.KindLemmas.{any_section, in_declaration, in_end_
 use Rattle.token_grammar.proofs.KindLemmas.{in_text}
 use Rattle.token_states.specs.PlaceKinds.{IsPlaceOf, KeepsKind}
 use Rattle.token_states.specs.Places.{place_lexeme}
-use Rattle.token_states.specs.declared.place.Place.{Place}
-use Rattle.token_states.specs.declared.place.Place.TheVariants.{Text, CharacterReference, TagOpen, EndTagOpen, Tag}
-use Rattle.token_states.specs.declared.place.Place.TheVariants.{MarkupDeclarationOpen, BogusComment, Comment, Doctype}
-use Rattle.token_states.specs.declared.place.Place.TheVariants.{CdataSection, RawText}
+use Rattle.token_states.specs.declared.place.LexemeState.{LexemeState}
+use Rattle.token_states.specs.declared.place.LexemeState.TheVariants.{BogusComment, CdataSection, CharacterReference}
+use Rattle.token_states.specs.declared.place.LexemeState.TheVariants.{Comment, Doctype, EndTagOpen}
+use Rattle.token_states.specs.declared.place.LexemeState.TheVariants.{MarkupDeclarationOpen, RawText, Tag, TagOpen}
+use Rattle.token_states.specs.declared.place.LexemeState.TheVariants.{Text}
 use Rattle.token_states.specs.declared.turn.Turn.{Turn}
 use Rattle.token_states.specs.declared.turn.Turn.TheVariants.{Goes, Ends, EndsBefore}
 
-pub at_place : (table : References) (foreign : Bool) (mode : Mode) (place : Place) (cs : List ℕ) →
+pub at_place : (table : References) (foreign : Bool) (mode : Mode) (place : LexemeState) (cs : List ℕ) →
     IsPlaceOf mode.text place → LexemeOf mode.text (place_lexeme table foreign mode place cs)
 at_place table foreign mode Text cs h = in_text mode.text table foreign mode cs (λ m. m)
 at_place table foreign mode (CharacterReference place) cs h =
@@ -42,7 +43,7 @@ any_tag : (kind : TextKind) (tag : TagKind) → HasMarkup kind → IsOfTag kind 
 any_tag kind StartTag h = h
 any_tag kind EndTag h = tt
 
-pub any_place : (kind : TextKind) (place : Place) → HasMarkup kind → IsPlaceOf kind place
+pub any_place : (kind : TextKind) (place : LexemeState) → HasMarkup kind → IsPlaceOf kind place
 any_place kind Text h = tt
 any_place kind (CharacterReference place) h = tt
 any_place kind (RawText raw place) h = tt
@@ -56,7 +57,7 @@ any_place kind Doctype h = h
 any_place kind CdataSection h = h
 
 -- from markup any turn keeps the kind of the text
-pub from_markup : (place : Place) (turn : Turn) → ((kind : TextKind) → IsPlaceOf kind place → HasMarkup kind) →
+pub from_markup : (place : LexemeState) (turn : Turn) → ((kind : TextKind) → IsPlaceOf kind place → HasMarkup kind) →
     KeepsKind place turn
 from_markup place (Goes at) m = λ kind h. any_place kind at (m kind h)
 from_markup place (Ends at) m = λ kind h. any_place kind at (m kind h)

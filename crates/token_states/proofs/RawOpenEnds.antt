@@ -1,8 +1,8 @@
 -- What is held of the text of an element is no lexeme yet: some text after it makes a tag of it, or begins another
 -- kind of text.
-use Rattle.std.proofs.Common.{◌≡◌, inl, inr, ℕ, zero, suc, Bool, true, false, not, ◌==◌, ◌&&◌, ◌||◌, nat_lt, List, []}
-use Rattle.std.proofs.Common.{◌∷◌, ◌++◌, length, drop, codes, Option, Some, None, option_map, IsTrue, append_assoc}
-use Rattle.std.proofs.Common.{refl, sym, ap, subst, ◌∙◌, arith}
+use Rattle.std.proofs.Common.{◌≡◌, ◌==◌, ◌&&◌, ◌||◌, [], ◌∷◌, ◌++◌, ◌∙◌, Bool, IsTrue, List, None, Option, Some, ap}
+use Rattle.std.proofs.Common.{append_assoc, arith, codes, drop, false, inl, inr, length, nat_lt, not, option_map, refl}
+use Rattle.std.proofs.Common.{subst, suc, sym, true, zero, ℕ}
 use Rattle.std.proofs.lemmas.Bool.{and_from, and_parts, and_right, eqb-true}
 use Rattle.std.proofs.lemmas.Bool.Decides.{nat_tests}
 use Rattle.std.proofs.lemmas.Slice.Eq.{bytes_eq-Decides}
@@ -17,8 +17,8 @@ use Rattle.html_lexemes.specs.declared.token.Tag.{Tag}
 use Rattle.html_lexemes.specs.declared.token.TagKind.TheVariants.{EndTag as EndTagKind}
 use Rattle.token_grammar.specs.Characters.{is_letter, name_of, shown}
 use Rattle.token_grammar.specs.Items.{Item, characters}
-use Rattle.token_grammar.specs.Lexemes.{Lexeme, begins_tag, ends_raw_text, has_end_tags, in_kind, is_last, lexeme}
-use Rattle.token_grammar.specs.Lexemes.{nothing, tag_lexeme, told, tagged}
+use Rattle.token_grammar.specs.Lexemes.{Lexeme, begins_tag, emitted, ends_raw_text, has_end_tags, in_kind, is_last}
+use Rattle.token_grammar.specs.Lexemes.{lexeme, nothing, tag_lexeme, tagged}
 use Rattle.token_grammar.specs.Slices.{begins_word, first_passes, front_while, rest_while}
 use Rattle.token_grammar.specs.Tags.{ends_tag_name, tag_at}
 use Rattle.token_grammar.specs.declared.modes.Mode.{Mode}
@@ -30,10 +30,10 @@ use Rattle.token_states.specs.RawSound.{is_end_tag_begun, is_escape_begun, is_es
 use Rattle.token_states.specs.RawSound.{is_one_dash_or_two, is_script_data, is_word_begun, is_word_front, word_of}
 use Rattle.token_states.specs.RawTurns.{IsEndTag}
 use Rattle.token_states.specs.Turns.{with_more}
-use Rattle.token_states.specs.declared.place.Place.TheVariants.{RawText}
+use Rattle.token_states.specs.declared.place.LexemeState.TheVariants.{RawText}
 use Rattle.token_states.specs.declared.place.RawPlace.{RawPlace}
-use Rattle.token_states.specs.declared.place.RawPlace.TheVariants.{LessThanSign, EndTagName, EscapeStart, EscapeWord}
-use Rattle.token_states.specs.declared.place.RawPlace.TheVariants.{Dashes}
+use Rattle.token_states.specs.declared.place.RawPlace.TheVariants.{Dashes, EndTagName, EscapeStart, EscapeWord}
+use Rattle.token_states.specs.declared.place.RawPlace.TheVariants.{LessThanSign}
 use Rattle.token_states.proofs.DashLemmas.{dash_or_dashes, escaped}
 use Rattle.token_states.proofs.EndTagLemmas.{all_pass, last_name, letter_shown, rest_on, slash_same}
 use Rattle.token_states.proofs.EscapeStartLemmas.{begun, script_data}
@@ -44,23 +44,23 @@ use Rattle.token_states.proofs.WordLemmas.{whole_word}
 -- ---- what is text with nothing after it is no lexeme if with some text after it a tag stands there, or another mode
 -- begins
 
-same_mode : (l : Lexeme) (rest left other : List ℕ) (items more : List Item) (behind later : Mode) →
-    told items behind left ≡ with_more [] l → told more later other ≡ with_more rest l → behind ≡ later
-same_mode nothing rest left other items more behind later e f = absurd cc
-same_mode (told i b r) rest left other items more behind later e f = cc
-same_mode (tagged t r) rest left other items more behind later e f = absurd cc
+same_mode : (l : Lexeme) (rest left other : List ℕ) (items more : List Item) (trailing later : Mode) →
+    emitted items trailing left ≡ with_more [] l → emitted more later other ≡ with_more rest l → trailing ≡ later
+same_mode nothing rest left other items more trailing later e f = absurd cc
+same_mode (emitted i b r) rest left other items more trailing later e f = cc
+same_mode (tagged t r) rest left other items more trailing later e f = absurd cc
 
-no_tag : (l : Lexeme) (rest left other : List ℕ) (items : List Item) (behind : Mode) (t : Tag) →
-    told items behind left ≡ with_more [] l → tagged t other ≡ with_more rest l → ⊥
-no_tag nothing rest left other items behind t e f = cc
-no_tag (told i b r) rest left other items behind t e f = cc
-no_tag (tagged u r) rest left other items behind t e f = cc
+no_tag : (l : Lexeme) (rest left other : List ℕ) (items : List Item) (trailing : Mode) (t : Tag) →
+    emitted items trailing left ≡ with_more [] l → tagged t other ≡ with_more rest l → ⊥
+no_tag nothing rest left other items trailing t e f = cc
+no_tag (emitted i b r) rest left other items trailing t e f = cc
+no_tag (tagged u r) rest left other items trailing t e f = cc
 
-no_tag_read : (l : Lexeme) (rest left : List ℕ) (items : List Item) (behind : Mode) (o : Option (Tag × List ℕ)) →
-    option_map (λ (read : Tag × List ℕ). read.1) o ≡ Some [] → told items behind left ≡ with_more [] l →
+no_tag_read : (l : Lexeme) (rest left : List ℕ) (items : List Item) (trailing : Mode) (o : Option (Tag × List ℕ)) →
+    option_map (λ (read : Tag × List ℕ). read.1) o ≡ Some [] → emitted items trailing left ≡ with_more [] l →
     tag_lexeme o ≡ with_more rest l → ⊥
-no_tag_read l rest left items behind None s e f = cc
-no_tag_read l rest left items behind (Some read) s e f = no_tag l rest left read.1 items behind read.0 e f
+no_tag_read l rest left items trailing None s e f = cc
+no_tag_read l rest left items trailing (Some read) s e f = no_tag l rest left read.1 items trailing read.0 e f
 
 same_kind : (mode : Mode) (kind other : RawKind) → in_kind mode kind ≡ in_kind mode other → kind ≡ other
 same_kind mode kind other e =

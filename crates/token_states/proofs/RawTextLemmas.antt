@@ -1,6 +1,6 @@
 -- Text of an element that is text character by character.
-use Rattle.std.proofs.Common.{◌≡◌, ℕ, Bool, true, false, ◌==◌, ◌&&◌, ◌||◌, List, [], ◌∷◌, ◌++◌, codes, refl, sym, ap}
-use Rattle.std.proofs.Common.{◌∙◌, arith}
+use Rattle.std.proofs.Common.{◌≡◌, ◌==◌, ◌&&◌, ◌||◌, [], ◌∷◌, ◌++◌, ◌∙◌, Bool, List, ap, arith, codes, false, refl, sym}
+use Rattle.std.proofs.Common.{true, ℕ}
 use Rattle.std.proofs.lemmas.Bool.{and_parts, and_left, not-true, or_parts}
 use Rattle.std.proofs.lemmas.Bool.Decides.{nat_tests}
 use Rattle.std.specs.Char.{to_ascii_lowercase}
@@ -11,8 +11,8 @@ use Rattle.html_lexemes.specs.declared.states.RawKind.TheVariants.{Rcdata, Rawte
 use Rattle.html_lexemes.specs.declared.states.ScriptEscapeKind.{ScriptEscapeKind}
 use Rattle.html_lexemes.specs.declared.states.ScriptEscapeKind.TheVariants.{Escaped, DoubleEscaped}
 use Rattle.token_grammar.specs.Items.{characters}
-use Rattle.token_grammar.specs.Lexemes.{begins_tag, ends_raw_text, has_end_tags, has_references, in_kind, kind_behind}
-use Rattle.token_grammar.specs.Lexemes.{lexeme, told}
+use Rattle.token_grammar.specs.Lexemes.{begins_tag, emitted, ends_raw_text, has_end_tags, has_references, in_kind}
+use Rattle.token_grammar.specs.Lexemes.{kind_after, lexeme}
 use Rattle.token_grammar.specs.Slices.{begins, begins_word}
 use Rattle.token_grammar.specs.declared.modes.Mode.{Mode}
 use Rattle.token_grammar.proofs.LexemeLemmas.{chosen_false}
@@ -21,25 +21,25 @@ use Rattle.token_states.specs.Turns.{is_raw_text}
 
 -- one character of text, after which the text is of a kind
 abbrev pub IsOne : References → Bool → Mode → RawKind → ℕ → RawKind → List ℕ → Type 0
-IsOne table foreign mode kind c behind rest = lexeme table foreign (in_kind mode kind) (c ∷ rest)
-    ≡ told (characters (c ∷ []) ∷ []) (in_kind mode behind) rest
+IsOne table foreign mode kind c trailing rest = lexeme table foreign (in_kind mode kind) (c ∷ rest)
+    ≡ emitted (characters (c ∷ []) ∷ []) (in_kind mode trailing) rest
 
-pub one : (table : References) (foreign : Bool) (mode : Mode) (kind behind : RawKind) (c : ℕ) (rest : List ℕ) →
+pub one : (table : References) (foreign : Bool) (mode : Mode) (kind trailing : RawKind) (c : ℕ) (rest : List ℕ) →
     (c == 60 && has_end_tags kind && ends_raw_text mode.last_start_tag rest) ≡ false → (c == 38) ≡ false →
-    (c == 0) ≡ false → kind_behind kind (c ∷ rest) ≡ behind → IsOne table foreign mode kind c behind rest
-one table foreign mode kind behind c rest e r n k =
+    (c == 0) ≡ false → kind_after kind (c ∷ rest) ≡ trailing → IsOne table foreign mode kind c trailing rest
+one table foreign mode kind trailing c rest e r n k =
     sym (chosen_false (c == 60 && has_end_tags kind && ends_raw_text mode.last_start_tag rest) _ _ e)
     ∙ sym (chosen_false (c == 38 && has_references kind) _ _ (and_left (c == 38) (has_references kind) r))
-    ∙ ap (λ d. told (characters (d ∷ []) ∷ []) (in_kind mode (kind_behind kind (c ∷ rest))) rest)
+    ∙ ap (λ d. emitted (characters (d ∷ []) ∷ []) (in_kind mode (kind_after kind (c ∷ rest))) rest)
     (sym (chosen_false (c == 0) 0xFFFD c n))
-    ∙ ap (λ l. told (characters (c ∷ []) ∷ []) (in_kind mode l) rest) k
+    ∙ ap (λ l. emitted (characters (c ∷ []) ∷ []) (in_kind mode l) rest) k
 
 -- a character that is text whatever follows it
 pub record IsPlain (kind : RawKind) (c : ℕ) : Type 0 where
   pub no_nul : (c == 0) ≡ false
   pub no_sign : (c == 60) ≡ false
   pub no_reference : (c == 38) ≡ false
-  pub same : (rest : List ℕ) → kind_behind kind (c ∷ rest) ≡ kind
+  pub same : (rest : List ℕ) → kind_after kind (c ∷ rest) ≡ kind
 
 lower_sign : (c : ℕ) → (c == 60) ≡ false → (to_ascii_lowercase c == 60) ≡ false
 lower_sign c h = grind (arith, nat_tests)
@@ -50,14 +50,14 @@ no_tag word c rest h =
 
 pub escaped_same : (escape : ScriptEscapeKind) (cs : List ℕ) → begins (codes "-->") cs ≡ false →
     begins_tag (codes "<script") cs ≡ false → begins_tag (codes "</script") cs ≡ false →
-    kind_behind (ScriptDataEscaped escape) cs ≡ ScriptDataEscaped escape
+    kind_after (ScriptDataEscaped escape) cs ≡ ScriptDataEscaped escape
 escaped_same Escaped cs a b d =
     sym (chosen_false (begins (codes "-->") cs) _ _ a) ∙ sym (chosen_false (begins_tag (codes "<script") cs) _ _ b)
 escaped_same DoubleEscaped cs a b d =
     sym (chosen_false (begins (codes "-->") cs) _ _ a) ∙ sym (chosen_false (begins_tag (codes "</script") cs) _ _ d)
 
 kept : (kind : RawKind) (c : ℕ) (rest : List ℕ) → is_raw_text kind c ≡ true → (c == 60) ≡ false →
-    kind_behind kind (c ∷ rest) ≡ kind
+    kind_after kind (c ∷ rest) ≡ kind
 kept Rcdata c rest h e = refl
 kept Rawtext c rest h e = refl
 kept ScriptData c rest h e = sym (chosen_false (begins (codes "<!--") (c ∷ rest)) _ _ (and_left (c == 60) _ e))
@@ -104,14 +104,14 @@ plain_text table mode kind (c ∷ text) rest h =
     )
 
 -- `<`, which is text, and such characters after it
-pub sign_text : (table : References) (mode : Mode) (kind behind : RawKind) (text rest : List ℕ) →
+pub sign_text : (table : References) (mode : Mode) (kind trailing : RawKind) (text rest : List ℕ) →
     (has_end_tags kind && ends_raw_text mode.last_start_tag (text ++ rest)) ≡ false →
-    kind_behind kind (60 ∷ (text ++ rest)) ≡ behind → list_all (is_raw_text behind) text ≡ true →
-    IsText table (in_kind mode kind) (60 ∷ text) (in_kind mode behind) rest
-sign_text table mode kind behind text rest e k h = (
-  in_kind mode behind,
-  (λ foreign. one table foreign mode kind behind 60 (text ++ rest) e refl refl k),
-  plain_text table mode behind text rest h,
+    kind_after kind (60 ∷ (text ++ rest)) ≡ trailing → list_all (is_raw_text trailing) text ≡ true →
+    IsText table (in_kind mode kind) (60 ∷ text) (in_kind mode trailing) rest
+sign_text table mode kind trailing text rest e k h = (
+  in_kind mode trailing,
+  (λ foreign. one table foreign mode kind trailing 60 (text ++ rest) e refl refl k),
+  plain_text table mode trailing text rest h,
 )
 
 -- a dash of an escaped part

@@ -1,6 +1,6 @@
 -- When a character reference is over: what its lexeme leaves, and that what follows does not change it.
-use Rattle.std.proofs.Common.{◌≡◌, ℕ, Bool, true, false, not, ◌&&◌, ◌||◌, List, [], ◌∷◌, ◌++◌, eqb, Option, Some, None}
-use Rattle.std.proofs.Common.{option_map, refl, sym, ap, subst, ◌∙◌, append_assoc, append-nil}
+use Rattle.std.proofs.Common.{◌≡◌, ◌&&◌, ◌||◌, [], ◌∷◌, ◌++◌, ◌∙◌, Bool, List, None, Option, Some, ap, append-nil}
+use Rattle.std.proofs.Common.{append_assoc, eqb, false, not, option_map, refl, subst, sym, true, ℕ}
 use Rattle.std.specs.Prelude.{IfSome}
 use Rattle.std.proofs.lemmas.Bool.{and_parts, ne_eqb}
 use Rattle.std.specs.List.{list_all}
@@ -15,7 +15,7 @@ use Rattle.token_grammar.specs.declared.modes.TextKind.{TextKind}
 use Rattle.token_grammar.specs.declared.modes.TextKind.TheVariants.{Ordinary, Plain, Raw}
 use Rattle.token_grammar.proofs.NameLemmas.{named_as, none_from}
 use Rattle.token_states.specs.Turns.{IsOver, IsTaken, LeavesText, is_text, with_more}
-use Rattle.token_states.specs.declared.place.Place.TheVariants.{CharacterReference}
+use Rattle.token_states.specs.declared.place.LexemeState.TheVariants.{CharacterReference}
 use Rattle.token_states.specs.declared.place.ReferencePlace.{ReferencePlace}
 
 -- ---- text in every kind of text

@@ -1,7 +1,7 @@
 -- What a further character does to the name of a character reference.
-use Rattle.std.proofs.Common.{◌≡◌, ◌≢◌, ℕ, Bool, true, false, cond, ◌&&◌, ◌||◌, IsTrue, List, [], ◌∷◌, ◌++◌, length}
-use Rattle.std.proofs.Common.{length-append, eqb, Option, Some, None, is_some, option_map, IsUtf8, encode_utf8_all}
-use Rattle.std.proofs.Common.{refl, sym, ap, subst, ◌∙◌, arith, append_assoc, append-nil}
+use Rattle.std.proofs.Common.{◌≡◌, ◌≢◌, ◌&&◌, ◌||◌, [], ◌∷◌, ◌++◌, ◌∙◌, Bool, IsTrue, IsUtf8, List, None, Option, Some}
+use Rattle.std.proofs.Common.{ap, append-nil, append_assoc, arith, cond, encode_utf8_all, eqb, false, is_some, length}
+use Rattle.std.proofs.Common.{length-append, option_map, refl, subst, sym, true, ℕ}
 use Rattle.std.specs.Prelude.{IfSome}
 use Rattle.std.proofs.lemmas.Bool.{and_parts, eqb-true, ne_eqb, or_left, or_right}
 use Rattle.std.proofs.lemmas.List.{nil_from_length}
@@ -19,7 +19,7 @@ use Rattle.token_grammar.specs.Slices.{begins}
 use Rattle.token_states.specs.Goings.{IsNamed}
 use Rattle.token_states.specs.ReferenceSound.{is_reference_held}
 use Rattle.token_states.specs.ReferenceTurns.{ReferenceTurns, goes}
-use Rattle.token_states.specs.declared.place.Place.TheVariants.{CharacterReference}
+use Rattle.token_states.specs.declared.place.LexemeState.TheVariants.{CharacterReference}
 use Rattle.token_states.specs.declared.place.ReferencePlace.TheVariants.{Named, Numeric}
 use Rattle.token_states.specs.declared.turn.Turn.TheVariants.{Ends, EndsBefore}
 use Rattle.token_states.proofs.ReferenceLexemes.{IsSettled, NoneOn, all_pass, both_true, class_plain, is_plain}

@@ -1,6 +1,6 @@
 -- A character reference that goes on is open: some text after it ends it, and the reference then has all of that text.
-use Rattle.std.proofs.Common.{◌≡◌, ◌≢◌, ℕ, Bool, true, false, not, ◌&&◌, ◌||◌, IsTrue, List, [], ◌∷◌, ◌++◌, length}
-use Rattle.std.proofs.Common.{length-append, eqb, ltb, Some, refl, sym, ap, subst, ◌∙◌, arith, append-nil}
+use Rattle.std.proofs.Common.{◌≡◌, ◌≢◌, ◌&&◌, ◌||◌, [], ◌∷◌, ◌++◌, ◌∙◌, Bool, IsTrue, List, Some, ap, append-nil, arith}
+use Rattle.std.proofs.Common.{eqb, false, length, length-append, ltb, not, refl, subst, sym, true, ℕ}
 use Rattle.std.proofs.lemmas.Bool.{and_parts, eqb-true, ne_eqb}
 use Rattle.std.specs.List.{list_all, list_any}
 use Rattle.std.specs.FinMap as finite
@@ -8,7 +8,7 @@ use Rattle.lex_base.specs.Lookup.{HasLongerName}
 use Rattle.lex_base.specs.References.{References}
 use Rattle.token_grammar.specs.Characters.{is_alphanumeric, is_digit}
 use Rattle.token_grammar.specs.Items.{Item}
-use Rattle.token_grammar.specs.Lexemes.{Lexeme, nothing, reference_lexeme, tagged, told}
+use Rattle.token_grammar.specs.Lexemes.{Lexeme, nothing, reference_lexeme, tagged, emitted}
 use Rattle.token_grammar.specs.References.{Found, is_x, named, number_of, numbered, numeric_of, reference}
 use Rattle.token_grammar.specs.declared.modes.Mode.{Mode}
 use Rattle.token_grammar.proofs.NameLemmas.{longest_name}
@@ -16,10 +16,10 @@ use Rattle.token_states.specs.Goings.{IsNamed}
 use Rattle.token_states.specs.OpenEnds.{IsOpenEnded, is_steady}
 use Rattle.token_states.specs.ReferenceSound.{are_digits, is_reference_held}
 use Rattle.token_states.specs.Turns.{with_more}
-use Rattle.token_states.specs.declared.place.Place.TheVariants.{CharacterReference}
+use Rattle.token_states.specs.declared.place.LexemeState.TheVariants.{CharacterReference}
 use Rattle.token_states.specs.declared.place.ReferencePlace.{ReferencePlace}
-use Rattle.token_states.specs.declared.place.ReferencePlace.TheVariants.{Named, Numeric, HexadecimalStart, Decimal}
-use Rattle.token_states.specs.declared.place.ReferencePlace.TheVariants.{Hexadecimal}
+use Rattle.token_states.specs.declared.place.ReferencePlace.TheVariants.{Decimal, Hexadecimal, HexadecimalStart, Named}
+use Rattle.token_states.specs.declared.place.ReferencePlace.TheVariants.{Numeric}
 use Rattle.token_states.proofs.ReferenceLexemes.{all_pass, other_code}
 use Rattle.token_states.proofs.ReferenceNames.{AreNames, by_name, is_of_name, letters_of, no_sign, there}
 use Rattle.token_states.proofs.ReferencePlaces.{decimal_at, hexadecimal_at, one_sign}
@@ -30,11 +30,11 @@ not_empty : (cs : List ℕ) (d : ℕ) (ds : List ℕ) → [] ≡ cs ++ d ∷ ds 
 not_empty cs d ds e = omega (arith, ap length e, length-append cs (d ∷ ds))
 
 -- a lexeme that leaves nothing has no text after it
-taken_whole : (items : List Item) (behind : Mode) (d : ℕ) (ds : List ℕ) (l : Lexeme) →
-    told items behind [] ≡ with_more (d ∷ ds) l → ⊥
-taken_whole items behind d ds nothing e = cc
-taken_whole items behind d ds (tagged t rest) e = cc
-taken_whole items behind d ds (told others mode rest) e = not_empty rest d ds cc
+taken_whole : (items : List Item) (trailing : Mode) (d : ℕ) (ds : List ℕ) (l : Lexeme) →
+    emitted items trailing [] ≡ with_more (d ∷ ds) l → ⊥
+taken_whole items trailing d ds nothing e = cc
+taken_whole items trailing d ds (tagged t rest) e = cc
+taken_whole items trailing d ds (emitted others mode rest) e = not_empty rest d ds cc
 
 -- a reference that has taken all of a text
 abbrev whole : List ℕ → Bool → Found
@@ -101,9 +101,9 @@ of_name_steady c h =
       other_code is_of_name 0xFEFF c refl h,
     ) refl
 
-all_behind : (p : ℕ → Bool) (cs ds : List ℕ) → list_all p (cs ++ ds) ≡ true → list_all p ds ≡ true
-all_behind p [] ds h = h
-all_behind p (c ∷ cs) ds h = all_behind p cs ds (and_parts (p c) (list_all p (cs ++ ds)) h).1
+all_after : (p : ℕ → Bool) (cs ds : List ℕ) → list_all p (cs ++ ds) ≡ true → list_all p ds ≡ true
+all_after p [] ds h = h
+all_after p (c ∷ cs) ds h = all_after p cs ds (and_parts (p c) (list_all p (cs ++ ds)) h).1
 
 named_whole : (table : References) (name value : List ℕ) → finite.get table name ≡ Some value →
     named table name ≡ Some (whole value (list_any (λ c. eqb c 59) name))
@@ -123,7 +123,7 @@ name_open table foreign mode held law letters some longer =
     let name = held ++ d ∷ more in
     let stands = there _ longer.2 in
     let steady : IsTrue (is_steady (d ∷ more)) =
-    all_behind (λ c. not (eqb c 10 || eqb c 13 || eqb c 0xFEFF)) held (d ∷ more)
+    all_after (λ c. not (eqb c 10 || eqb c 13 || eqb c 0xFEFF)) held (d ∷ more)
     (all_pass is_of_name _ of_name_steady name (letters_of name (law name stands.0 stands.1).0)) in
     open_before table foreign mode Named held d more stands.0 (list_any (λ c. eqb c 59) name) steady
     (by_name table name (no_sign is_alphanumeric refl held (d ∷ more) letters some) ∙

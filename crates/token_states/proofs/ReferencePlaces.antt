@@ -1,7 +1,7 @@
 -- What a further character does to what is held of a character reference.
-use Rattle.std.proofs.Common.{◌≡◌, ℕ, Bool, true, false, cond, ◌&&◌, IsTrue, List, [], ◌∷◌, ◌++◌, length, take, eqb}
-use Rattle.std.proofs.Common.{IsUtf8, ◌≤◌, ltb, length-append, Some, None, option_map, chars, refl, sym, ap, ap₂, subst}
-use Rattle.std.proofs.Common.{◌∙◌, arith, append_assoc, append-nil}
+use Rattle.std.proofs.Common.{◌≡◌, ◌&&◌, [], ◌∷◌, ◌++◌, ◌≤◌, ◌∙◌, Bool, IsTrue, IsUtf8, List, None, Some, ap}
+use Rattle.std.proofs.Common.{append-nil, append_assoc, ap₂, arith, chars, cond, eqb, false, length, length-append, ltb}
+use Rattle.std.proofs.Common.{option_map, refl, subst, sym, take, true, ℕ}
 use Rattle.std.specs.Prelude.{IfSome}
 use Rattle.std.proofs.lemmas.Bool.{and_parts, lt-ltb, eqb-true, cond_both, cond-false, cond-true}
 use Rattle.std.specs.List.{list_all}
@@ -19,10 +19,10 @@ use Rattle.token_states.specs.ReferenceTurns.{ReferenceTurns, digit_turn, goes, 
 use Rattle.token_grammar.specs.declared.modes.Mode.{Mode}
 use Rattle.token_grammar.proofs.MarkLemmas.{chars-encode}
 use Rattle.token_states.specs.Turns.{Turns}
-use Rattle.token_states.specs.declared.place.Place.TheVariants.{CharacterReference}
+use Rattle.token_states.specs.declared.place.LexemeState.TheVariants.{CharacterReference}
 use Rattle.token_states.specs.declared.place.ReferencePlace.{ReferencePlace}
-use Rattle.token_states.specs.declared.place.ReferencePlace.TheVariants.{Numeric, HexadecimalStart, Decimal}
-use Rattle.token_states.specs.declared.place.ReferencePlace.TheVariants.{Hexadecimal}
+use Rattle.token_states.specs.declared.place.ReferencePlace.TheVariants.{Decimal, Hexadecimal, HexadecimalStart}
+use Rattle.token_states.specs.declared.place.ReferencePlace.TheVariants.{Numeric}
 use Rattle.token_states.specs.declared.turn.Turn.{Turn}
 use Rattle.token_states.specs.declared.turn.Turn.TheVariants.{Goes, Ends, EndsBefore}
 use Rattle.token_states.proofs.ReferenceLexemes.{IsSettled, all_append, all_pass, both_true, class_plain, is_plain}

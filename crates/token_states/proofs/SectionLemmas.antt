@@ -1,6 +1,6 @@
 -- A further character of a CDATA section.
-use Rattle.std.proofs.Common.{◌≡◌, ◌≢◌, ℕ, true, false, ◌==◌, List, [], ◌∷◌, ◌++◌, codes, Option, Some, None}
-use Rattle.std.proofs.Common.{option_map, IsTrue, IsUtf8, ◌⊎◌, inl, inr, refl, sym, ap, subst, ◌∙◌}
+use Rattle.std.proofs.Common.{◌≡◌, ◌≢◌, ◌==◌, [], ◌∷◌, ◌++◌, ◌⊎◌, ◌∙◌, IsTrue, IsUtf8, List, None, Option, Some, ap}
+use Rattle.std.proofs.Common.{codes, false, inl, inr, option_map, refl, subst, sym, true, ℕ}
 use Rattle.std.specs.Str.{bytes_eq, chars}
 use Rattle.std.proofs.lemmas.Bool.{false≢true, eqb-true, ne_eqb, and_parts}
 use Rattle.std.proofs.lemmas.Slice.Eq.{bytes_eq-Decides}

@@ -1,6 +1,6 @@
 -- Slices of a text to which more is added after, where something of it was left.
-use Rattle.std.proofs.Common.{◌≡◌, ◌≢◌, ℕ, Bool, true, false, if◌then◌else◌, List, [], ◌∷◌, ◌++◌, Option, Some, None}
-use Rattle.std.proofs.Common.{option_map, refl, ap}
+use Rattle.std.proofs.Common.{◌≡◌, ◌≢◌, if◌then◌else◌, [], ◌∷◌, ◌++◌, Bool, List, None, Option, Some, ap, false}
+use Rattle.std.proofs.Common.{option_map, refl, true, ℕ}
 use Rattle.token_grammar.specs.Slices.{Cut, after, begins, cut, cut_here, front_while, longer, rest_while}
 
 -- ---- the longest front of a class

@@ -1,6 +1,6 @@
 -- A further character of a tag.
-use Rattle.std.proofs.Common.{◌≡◌, ◌≢◌, ℕ, Bool, true, false, ◌==◌, not, List, [], ◌∷◌, ◌++◌, Option, Some, None}
-use Rattle.std.proofs.Common.{option_map, IsUtf8, refl, sym, ap, ◌∙◌, append_assoc}
+use Rattle.std.proofs.Common.{◌≡◌, ◌≢◌, ◌==◌, [], ◌∷◌, ◌++◌, ◌∙◌, Bool, IsUtf8, List, None, Option, Some, ap}
+use Rattle.std.proofs.Common.{append_assoc, false, not, option_map, refl, sym, true, ℕ}
 use Rattle.std.specs.Str.{chars}
 use Rattle.std.specs.Char.{IsScalar}
 use Rattle.std.proofs.lemmas.Bool.{false≢true, ne_eqb}
@@ -17,7 +17,7 @@ use Rattle.token_grammar.specs.declared.modes.Mode.{Mode}
 use Rattle.token_grammar.proofs.MarkLemmas.{chars-encode}
 use Rattle.token_states.specs.TagPlaces.{IsInTag, rest_in, tag_rest}
 use Rattle.token_states.specs.Turns.{LeavesText, Turns, with_more}
-use Rattle.token_states.specs.declared.place.Place.TheVariants.{Tag}
+use Rattle.token_states.specs.declared.place.LexemeState.TheVariants.{Tag}
 use Rattle.token_states.specs.declared.place.TagPlace.{TagPlace}
 use Rattle.token_states.specs.declared.place.TagPlace.TheVariants.{TagName}
 use Rattle.token_states.specs.declared.turn.Turn.TheVariants.{Goes, Ends}

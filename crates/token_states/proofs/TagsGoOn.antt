@@ -1,7 +1,7 @@
 -- A tag that ends in a text is the same tag where more follows.
-use Rattle.std.proofs.Common.{◌≡◌, ◌≢◌, ℕ, zero, suc, ◌≤◌, Bool, true, false, ◌==◌, ◌||◌, not, if◌then◌else◌, List, []}
-use Rattle.std.proofs.Common.{◌∷◌, ◌++◌, length, drop, Option, Some, None, option_map, option_and_then, refl, sym, ap}
-use Rattle.std.proofs.Common.{ap₂, subst, ◌∙◌, arith, length-append}
+use Rattle.std.proofs.Common.{◌≡◌, ◌≢◌, ◌≤◌, ◌==◌, ◌||◌, if◌then◌else◌, [], ◌∷◌, ◌++◌, ◌∙◌, Bool, List, None, Option}
+use Rattle.std.proofs.Common.{Some, ap, ap₂, arith, drop, false, length, length-append, not, option_and_then}
+use Rattle.std.proofs.Common.{option_map, refl, subst, suc, sym, true, zero, ℕ}
 use Rattle.lex_base.specs.References.{References}
 use Rattle.html_lexemes.specs.declared.names.Attribute.{Attribute}
 use Rattle.html_lexemes.specs.declared.token.Tag.{Tag}
@@ -9,9 +9,9 @@ use Rattle.html_lexemes.specs.declared.token.TagKind.{TagKind}
 use Rattle.token_grammar.specs.Characters.{is_space, name_of}
 use Rattle.token_grammar.specs.References.{value_of}
 use Rattle.token_grammar.specs.Slices.{Cut, after, begins, cut, front_while, rest_while}
-use Rattle.token_grammar.specs.Tags.{TagEnd, attribute, attribute_at, behind_gap, ends_attribute_name, ends_tag_name}
+use Rattle.token_grammar.specs.Tags.{TagEnd, after_gap, attribute, attribute_at, ends_attribute_name, ends_tag_name}
 use Rattle.token_grammar.specs.Tags.{ends_unquoted, ends_with_slash, equals, greater, is_gap, slash, tag_at, tag_end}
-use Rattle.token_grammar.specs.Tags.{tag_end_from, tag_of, value_behind, with_attribute, without_spaces, written_value}
+use Rattle.token_grammar.specs.Tags.{tag_end_from, tag_of, value_after, with_attribute, without_spaces, written_value}
 use Rattle.token_states.proofs.SlicesGoOn.{Grows, cut-grows, cut_and, front-same, rest-grows, rest-within}
 
 -- more than a gap is left
@@ -75,14 +75,14 @@ spaced_grows (c ∷ cs) grown more same =
 
 -- the value after a name, by whether `=` stands there, what follows that, and all that stands there
 abbrev value_if : Bool → List ℕ → List ℕ → Option Cut
-value_if equals_there behind cs = if equals_there then written_value (without_spaces behind)
+value_if equals_there trailing cs = if equals_there then written_value (without_spaces trailing)
     else Some (record { slice = []; rest = cs })
 
-value_if_grows : (b : Bool) (behind cs more : List ℕ) →
-    GrowsPast more (value_if b behind cs) (value_if b (behind ++ more) (cs ++ more))
-value_if_grows true behind cs more =
-    spaced_grows (without_spaces behind) (without_spaces (behind ++ more)) more (rest-grows is_space behind more)
-value_if_grows false behind cs more = λ past. refl
+value_if_grows : (b : Bool) (trailing cs more : List ℕ) →
+    GrowsPast more (value_if b trailing cs) (value_if b (trailing ++ more) (cs ++ more))
+value_if_grows true trailing cs more =
+    spaced_grows (without_spaces trailing) (without_spaces (trailing ++ more)) more (rest-grows is_space trailing more)
+value_if_grows false trailing cs more = λ past. refl
 
 abbrev value_over : List ℕ → List ℕ → Option Cut
 value_over spaced cs = value_if (begins (equals ∷ []) spaced) (drop 1 spaced) cs
@@ -90,11 +90,11 @@ value_over spaced cs = value_if (begins (equals ∷ []) spaced) (drop 1 spaced) 
 value_grows : (spaced grown cs more : List ℕ) → (IsPastGap cs → spaced ≢ []) → (spaced ≢ [] → grown ≡ spaced ++ more) →
     GrowsPast more (value_over spaced cs) (value_over grown (cs ++ more))
 value_grows [] grown cs more left same = λ past. absurd (left past refl)
-value_grows (c ∷ behind) grown cs more left same =
-    subst (λ g. GrowsPast more (value_over (c ∷ behind) cs) (value_over g (cs ++ more))) (sym (same (λ e. absurd cc)))
-    (value_if_grows (begins (equals ∷ []) (c ∷ behind)) behind cs more)
+value_grows (c ∷ trailing) grown cs more left same =
+    subst (λ g. GrowsPast more (value_over (c ∷ trailing) cs) (value_over g (cs ++ more))) (sym (same (λ e. absurd cc)))
+    (value_if_grows (begins (equals ∷ []) (c ∷ trailing)) trailing cs more)
 
-value-grows : (cs more : List ℕ) → GrowsPast more (value_behind cs) (value_behind (cs ++ more))
+value-grows : (cs more : List ℕ) → GrowsPast more (value_after cs) (value_after (cs ++ more))
 value-grows cs more =
     value_grows (without_spaces cs) (without_spaces (cs ++ more)) cs more (spaces_left cs) (rest-grows is_space cs more)
 
@@ -117,18 +117,18 @@ made_grows make more (Some v) later same h =
 abbrev attribute_of : References → ℕ → List ℕ → Cut → Attribute
 attribute_of table c name value = attribute (name_of (c ∷ name)) (value_of table value.slice)
 
-abbrev read_behind : References → ℕ → List ℕ → List ℕ → Option (Attribute × List ℕ)
-read_behind table c name rest = made (attribute_of table c name) (value_behind rest)
+abbrev read_after : References → ℕ → List ℕ → List ℕ → Option (Attribute × List ℕ)
+read_after table c name rest = made (attribute_of table c name) (value_after rest)
 
 read_grows : (table : References) (c : ℕ) (name rest name_later rest_later more : List ℕ) →
     (rest ≢ [] → name_later ≡ name) → (rest ≢ [] → rest_later ≡ rest ++ more)
-    → ReadGrows more (read_behind table c name rest) (read_behind table c name_later rest_later)
+    → ReadGrows more (read_after table c name rest) (read_after table c name_later rest_later)
 read_grows table c name [] name_later rest_later more names rests = λ past. absurd (past refl)
 read_grows table c name (d ∷ rest) name_later rest_later more names rests =
     let left : d ∷ rest ≢ [] = λ e. absurd cc in
-    subst (ReadGrows more (read_behind table c name (d ∷ rest)))
-    (sym (ap₂ (read_behind table c) (names left) (rests left)))
-    (made_grows (attribute_of table c name) more (value_behind (d ∷ rest)) (value_behind ((d ∷ rest) ++ more))
+    subst (ReadGrows more (read_after table c name (d ∷ rest)))
+    (sym (ap₂ (read_after table c) (names left) (rests left)))
+    (made_grows (attribute_of table c name) more (value_after (d ∷ rest)) (value_after ((d ∷ rest) ++ more))
     (λ v. refl) (value-grows (d ∷ rest) more))
 
 attribute-grows : (table : References) (c : ℕ) (cs more : List ℕ) →
@@ -152,10 +152,10 @@ abbrev HasEndPast : List ℕ → Option TagEnd → Type 0
 HasEndPast cs None = Unit
 HasEndPast cs (Some end) = IsPastGap cs
 
-behind_past : (table : References) (closes : Bool) (cs rest : List ℕ) (further : List ℕ → Option TagEnd) →
-    rest ≡ rest_while is_gap cs → HasEndPast cs (behind_gap table closes rest further)
-behind_past table closes cs [] further e = tt
-behind_past table closes cs (c ∷ rest) further e = any (behind_gap table closes (c ∷ rest) further) where
+after_past : (table : References) (closes : Bool) (cs rest : List ℕ) (further : List ℕ → Option TagEnd) →
+    rest ≡ rest_while is_gap cs → HasEndPast cs (after_gap table closes rest further)
+after_past table closes cs [] further e = tt
+after_past table closes cs (c ∷ rest) further e = any (after_gap table closes (c ∷ rest) further) where
   any : (o : Option TagEnd) → HasEndPast cs o
   any None = tt
   any (Some end) = λ none. absurd cc
@@ -163,7 +163,7 @@ behind_past table closes cs (c ∷ rest) further e = any (behind_gap table close
 end_past : (table : References) (n : ℕ) (cs : List ℕ) → HasEndPast cs (tag_end_from table n cs)
 end_past table zero cs = tt
 end_past table (suc n) cs =
-    behind_past table (ends_with_slash (front_while is_gap cs)) cs (rest_while is_gap cs) (tag_end_from table n) refl
+    after_past table (ends_with_slash (front_while is_gap cs)) cs (rest_while is_gap cs) (tag_end_from table n) refl
 
 with_grows : (more : List ℕ) (a : Attribute) (o later : Option TagEnd) → EndGrows more o later →
     EndGrows more (option_map (with_attribute a) o) (option_map (with_attribute a) later)
@@ -190,16 +190,16 @@ closed_or_further : (more : List ℕ) (b closes : Bool) (cs : List ℕ) (o later
 closed_or_further more true closes cs o later h = refl
 closed_or_further more false closes cs o later h = h
 
-behind_grows : (table : References) (gap rest gap_later rest_later more : List ℕ) (f g : List ℕ → Option TagEnd) →
+after_grows : (table : References) (gap rest gap_later rest_later more : List ℕ) (f g : List ℕ → Option TagEnd) →
     (rest ≢ [] → gap_later ≡ gap) → (rest ≢ [] → rest_later ≡ rest ++ more)
     → ((cs : List ℕ) → HasEndPast cs (f cs)) → ((cs : List ℕ) → EndGrows more (f cs) (g (cs ++ more)))
-    → EndGrows more (behind_gap table (ends_with_slash gap) rest f)
-    (behind_gap table (ends_with_slash gap_later) rest_later g)
-behind_grows table gap [] gap_later rest_later more f g gaps rests past ends = tt
-behind_grows table gap (c ∷ cs) gap_later rest_later more f g gaps rests past ends =
+    → EndGrows more (after_gap table (ends_with_slash gap) rest f)
+    (after_gap table (ends_with_slash gap_later) rest_later g)
+after_grows table gap [] gap_later rest_later more f g gaps rests past ends = tt
+after_grows table gap (c ∷ cs) gap_later rest_later more f g gaps rests past ends =
     let left : c ∷ cs ≢ [] = λ e. absurd cc in
-    subst (EndGrows more (behind_gap table (ends_with_slash gap) (c ∷ cs) f))
-    (sym (ap₂ (λ s r. behind_gap table (ends_with_slash s) r g) (gaps left) (rests left)))
+    subst (EndGrows more (after_gap table (ends_with_slash gap) (c ∷ cs) f))
+    (sym (ap₂ (λ s r. after_gap table (ends_with_slash s) r g) (gaps left) (rests left)))
     (closed_or_further more (c == greater) (ends_with_slash gap) cs (joined f (attribute_at table c cs))
     (joined g (attribute_at table c (cs ++ more)))
     (further_grows more f g (attribute_at table c cs) (attribute_at table c (cs ++ more)) past ends
@@ -210,7 +210,7 @@ end-grows : (table : References) (more : List ℕ) (n m : ℕ) (cs : List ℕ) �
 end-grows table more zero m cs le = tt
 end-grows table more (suc n) zero cs le = absurd (omega arith)
 end-grows table more (suc n) (suc m) cs le =
-    behind_grows table (front_while is_gap cs) (rest_while is_gap cs) (front_while is_gap (cs ++ more))
+    after_grows table (front_while is_gap cs) (rest_while is_gap cs) (front_while is_gap (cs ++ more))
     (rest_while is_gap (cs ++ more)) more (tag_end_from table n) (tag_end_from table m)
     (front-same is_gap cs more) (rest-grows is_gap cs more) (end_past table n)
     (λ ds. end-grows table more n m ds (omega arith))

@@ -1,6 +1,6 @@
 -- What is held of a lexeme that goes on: more than what a place asks for, it may still become something else.
-use Rattle.std.specs.Prelude.{ℕ, Bool, true, false, ◌&&◌, nat_lt, List, [], ◌∷◌, length, drop, Option, Some, None}
-use Rattle.std.specs.Prelude.{IsTrue}
+use Rattle.std.specs.Prelude.{◌&&◌, [], ◌∷◌, Bool, IsTrue, List, None, Option, Some, drop, false, length, nat_lt, true}
+use Rattle.std.specs.Prelude.{ℕ}
 use Rattle.std.specs.List.{list_all}
 use Rattle.lex_base.specs.Lookup.{HasLongerName}
 use Rattle.lex_base.specs.References.{References, is_between}
@@ -9,16 +9,17 @@ use Rattle.html_lexemes.specs.declared.states.RawKind.TheVariants.{Rcdata, Rawte
 use Rattle.token_states.specs.RawSound.{is_raw_held, is_word_front}
 use Rattle.token_states.specs.ReferenceSound.{is_reference_held}
 use Rattle.token_states.specs.Sound.{IsSound}
-use Rattle.token_states.specs.declared.place.Place.{Place}
-use Rattle.token_states.specs.declared.place.Place.TheVariants.{Text, CharacterReference, TagOpen, EndTagOpen, Tag}
-use Rattle.token_states.specs.declared.place.Place.TheVariants.{MarkupDeclarationOpen, BogusComment, Comment, Doctype}
-use Rattle.token_states.specs.declared.place.Place.TheVariants.{CdataSection, RawText}
+use Rattle.token_states.specs.declared.place.LexemeState.{LexemeState}
+use Rattle.token_states.specs.declared.place.LexemeState.TheVariants.{BogusComment, CdataSection, CharacterReference}
+use Rattle.token_states.specs.declared.place.LexemeState.TheVariants.{Comment, Doctype, EndTagOpen}
+use Rattle.token_states.specs.declared.place.LexemeState.TheVariants.{MarkupDeclarationOpen, RawText, Tag, TagOpen}
+use Rattle.token_states.specs.declared.place.LexemeState.TheVariants.{Text}
 use Rattle.token_states.specs.declared.place.RawPlace.{RawPlace}
-use Rattle.token_states.specs.declared.place.RawPlace.TheVariants.{LessThanSign, EndTagName, EscapeStart, EscapeWord}
-use Rattle.token_states.specs.declared.place.RawPlace.TheVariants.{Dashes}
+use Rattle.token_states.specs.declared.place.RawPlace.TheVariants.{Dashes, EndTagName, EscapeStart, EscapeWord}
+use Rattle.token_states.specs.declared.place.RawPlace.TheVariants.{LessThanSign}
 use Rattle.token_states.specs.declared.place.ReferencePlace.{ReferencePlace}
-use Rattle.token_states.specs.declared.place.ReferencePlace.TheVariants.{Named, Numeric, HexadecimalStart, Decimal}
-use Rattle.token_states.specs.declared.place.ReferencePlace.TheVariants.{Hexadecimal}
+use Rattle.token_states.specs.declared.place.ReferencePlace.TheVariants.{Decimal, Hexadecimal, HexadecimalStart, Named}
+use Rattle.token_states.specs.declared.place.ReferencePlace.TheVariants.{Numeric}
 
 -- The table has a name that is longer than what is held of one; after `&` alone a number may stand.
 abbrev pub IsNamed : References → ReferencePlace → List ℕ → Type 0
@@ -57,7 +58,7 @@ is_raw_going last kind EscapeWord held = is_raw_held kind EscapeWord held
 is_raw_going last kind Dashes held = is_raw_held kind Dashes held
 
 -- the same of any place, with the name of the last start tag
-abbrev pub IsGoing : References → Option (List ℕ) → Place → List ℕ → Type 0
+abbrev pub IsGoing : References → Option (List ℕ) → LexemeState → List ℕ → Type 0
 IsGoing table last Text held = IsSound Text held
 IsGoing table last (CharacterReference place) held = IsTrue (is_reference_held place held) × IsNamed table place held
 IsGoing table last TagOpen held = IsSound TagOpen held

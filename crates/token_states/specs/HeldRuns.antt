@@ -1,8 +1,8 @@
 -- Runs of characters that are held at a place, which stays.
 use Rattle.std.specs.Prelude.{ℕ, List, [], ◌∷◌, Option, Some, None}
 use Rattle.html_lexemes.specs.declared.states.AttrValueKind.TheVariants.{Unquoted, SingleQuoted, DoubleQuoted}
-use Rattle.token_states.specs.declared.place.Place.{Place}
-use Rattle.token_states.specs.declared.place.Place.TheVariants.{BogusComment, Comment, Doctype, Tag}
+use Rattle.token_states.specs.declared.place.LexemeState.{LexemeState}
+use Rattle.token_states.specs.declared.place.LexemeState.TheVariants.{BogusComment, Comment, Doctype, Tag}
 use Rattle.token_states.specs.declared.place.TagPlace.{TagPlace}
 use Rattle.token_states.specs.declared.place.TagPlace.TheVariants.{AttributeName, AttributeValue, TagName}
 
@@ -17,7 +17,7 @@ tag_stops (AttributeValue DoubleQuoted) = Some (10 ∷ 13 ∷ 34 ∷ [])
 tag_stops place = None
 
 -- none where each character is read by itself
-abbrev pub held_stops : Place → Option (List ℕ)
+abbrev pub held_stops : LexemeState → Option (List ℕ)
 held_stops (Tag kind place) = tag_stops place
 held_stops BogusComment = Some (10 ∷ 13 ∷ 62 ∷ [])
 held_stops Comment = Some (10 ∷ 13 ∷ 62 ∷ [])

@@ -9,10 +9,10 @@ use Rattle.token_states.specs.Places.{place_lexeme}
 use Rattle.token_states.specs.Goings.{IsGoing}
 use Rattle.token_states.specs.declared.declarations.Opening.{Opening}
 use Rattle.token_states.specs.declared.declarations.Opening.TheVariants.{Begun, Opens, Other}
-use Rattle.token_states.specs.declared.place.Place.{Place}
+use Rattle.token_states.specs.declared.place.LexemeState.{LexemeState}
 
 -- what follows is read at the place that is opened
-abbrev pub IsOpened : Bool → List ℕ → Place → Type 0
+abbrev pub IsOpened : Bool → List ℕ → LexemeState → Type 0
 IsOpened foreign cs place = (table : References) (mode : Mode) (rest : List ℕ) →
     place_lexeme table foreign mode place rest ≡ declaration foreign mode (cs ++ rest)
 

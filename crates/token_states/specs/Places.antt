@@ -3,22 +3,23 @@ use Rattle.std.specs.Prelude.{ℕ, Bool, List, codes}
 use Rattle.lex_base.specs.References.{References}
 use Rattle.token_grammar.specs.Comments.{bogus_comment_slice, comment_slice}
 use Rattle.token_grammar.specs.Doctypes.{doctype_at}
-use Rattle.token_grammar.specs.Lexemes.{Lexeme, behind_slash, cdata_lexeme, comment_lexeme, declaration, doctype_lexeme}
+use Rattle.token_grammar.specs.Lexemes.{Lexeme, after_slash, cdata_lexeme, comment_lexeme, declaration, doctype_lexeme}
 use Rattle.token_grammar.specs.Lexemes.{in_kind, lexeme, markup, reference_lexeme, tag_lexeme}
 use Rattle.token_grammar.specs.References.{reference}
 use Rattle.token_grammar.specs.Slices.{after, cut, cut_or_all}
 use Rattle.token_grammar.specs.Tags.{tag_at}
 use Rattle.token_grammar.specs.declared.modes.Mode.{Mode}
-use Rattle.token_states.specs.declared.place.Place.{Place}
-use Rattle.token_states.specs.declared.place.Place.TheVariants.{Text, CharacterReference, TagOpen, EndTagOpen, Tag}
-use Rattle.token_states.specs.declared.place.Place.TheVariants.{MarkupDeclarationOpen, BogusComment, Comment, Doctype}
-use Rattle.token_states.specs.declared.place.Place.TheVariants.{CdataSection, RawText}
+use Rattle.token_states.specs.declared.place.LexemeState.{LexemeState}
+use Rattle.token_states.specs.declared.place.LexemeState.TheVariants.{BogusComment, CdataSection, CharacterReference}
+use Rattle.token_states.specs.declared.place.LexemeState.TheVariants.{Comment, Doctype, EndTagOpen}
+use Rattle.token_states.specs.declared.place.LexemeState.TheVariants.{MarkupDeclarationOpen, RawText, Tag, TagOpen}
+use Rattle.token_states.specs.declared.place.LexemeState.TheVariants.{Text}
 
-abbrev pub place_lexeme : References → Bool → Mode → Place → List ℕ → Lexeme
+abbrev pub place_lexeme : References → Bool → Mode → LexemeState → List ℕ → Lexeme
 place_lexeme table foreign mode Text cs = lexeme table foreign mode cs
 place_lexeme table foreign mode (CharacterReference place) cs = reference_lexeme mode cs (reference table cs)
 place_lexeme table foreign mode TagOpen cs = markup table foreign mode cs
-place_lexeme table foreign mode EndTagOpen cs = behind_slash table mode cs
+place_lexeme table foreign mode EndTagOpen cs = after_slash table mode cs
 place_lexeme table foreign mode (Tag kind place) cs = tag_lexeme (tag_at table kind cs)
 place_lexeme table foreign mode MarkupDeclarationOpen cs = declaration foreign mode cs
 place_lexeme table foreign mode BogusComment cs = comment_lexeme mode (bogus_comment_slice cs)

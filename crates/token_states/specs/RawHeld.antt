@@ -7,11 +7,11 @@ use Rattle.token_states.specs.declared.turn.RawTurn.{RawTurn}
 use Rattle.token_states.specs.declared.turn.RawTurn.TheVariants.{Goes, Before, Shifts, EndTag}
 
 -- a front that is text leaves two dashes; of an end tag the name is left
-abbrev pub held_behind : RawTurn → List ℕ → ℕ → List ℕ
-held_behind (Goes next) held c = held ++ c ∷ []
-held_behind (Before behind) held c = held
-held_behind (Shifts text behind next) held c = codes "--"
-held_behind EndTag held c = drop 2 held
+abbrev pub held_after : RawTurn → List ℕ → ℕ → List ℕ
+held_after (Goes next) held c = held ++ c ∷ []
+held_after (Before trailing) held c = held
+held_after (Shifts text trailing next) held c = codes "--"
+held_after EndTag held c = drop 2 held
 
 -- a word has a character at a place
 abbrev pub is_at : ℕ → List ℕ → ℕ → Bool

@@ -8,8 +8,8 @@ use Rattle.html_lexemes.specs.declared.states.ScriptEscapeKind.TheVariants.{Esca
 use Rattle.token_grammar.specs.Characters.{is_letter}
 use Rattle.token_grammar.specs.Lexemes.{has_end_tags}
 use Rattle.token_states.specs.declared.place.RawPlace.{RawPlace}
-use Rattle.token_states.specs.declared.place.RawPlace.TheVariants.{LessThanSign, EndTagName, EscapeStart, EscapeWord}
-use Rattle.token_states.specs.declared.place.RawPlace.TheVariants.{Dashes}
+use Rattle.token_states.specs.declared.place.RawPlace.TheVariants.{Dashes, EndTagName, EscapeStart, EscapeWord}
+use Rattle.token_states.specs.declared.place.RawPlace.TheVariants.{LessThanSign}
 
 abbrev pub is_less_than_sign : List ℕ → Bool
 is_less_than_sign (l ∷ []) = l == 60

@@ -4,8 +4,8 @@ use Rattle.std.specs.List.{list_all}
 use Rattle.token_grammar.specs.Characters.{is_alphanumeric, is_digit}
 use Rattle.token_grammar.specs.References.{is_x}
 use Rattle.token_states.specs.declared.place.ReferencePlace.{ReferencePlace}
-use Rattle.token_states.specs.declared.place.ReferencePlace.TheVariants.{Named, Numeric, HexadecimalStart, Decimal}
-use Rattle.token_states.specs.declared.place.ReferencePlace.TheVariants.{Hexadecimal}
+use Rattle.token_states.specs.declared.place.ReferencePlace.TheVariants.{Decimal, Hexadecimal, HexadecimalStart, Named}
+use Rattle.token_states.specs.declared.place.ReferencePlace.TheVariants.{Numeric}
 
 -- at least one digit to the base
 abbrev pub are_digits : ℕ → List ℕ → Bool

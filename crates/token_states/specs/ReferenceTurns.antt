@@ -5,22 +5,22 @@ use Rattle.token_grammar.specs.Characters.{is_digit}
 use Rattle.token_grammar.specs.References.{is_x, semicolon}
 use Rattle.token_grammar.specs.declared.modes.Mode.{Mode}
 use Rattle.token_states.specs.Turns.{Turns}
-use Rattle.token_states.specs.declared.place.Place.{Place}
-use Rattle.token_states.specs.declared.place.Place.TheVariants.{CharacterReference}
+use Rattle.token_states.specs.declared.place.LexemeState.{LexemeState}
+use Rattle.token_states.specs.declared.place.LexemeState.TheVariants.{CharacterReference}
 use Rattle.token_states.specs.declared.place.ReferencePlace.{ReferencePlace}
 use Rattle.token_states.specs.declared.place.ReferencePlace.TheVariants.{HexadecimalStart, Decimal, Hexadecimal}
 use Rattle.token_states.specs.declared.turn.Turn.{Turn}
 use Rattle.token_states.specs.declared.turn.Turn.TheVariants.{Goes, Ends, EndsBefore}
 
 -- what is held then
-abbrev pub held_behind : Turn → List ℕ → ℕ → List ℕ
-held_behind (Goes place) held c = held ++ c ∷ []
-held_behind (Ends place) held c = held ++ c ∷ []
-held_behind EndsBefore held c = held
+abbrev pub held_after : Turn → List ℕ → ℕ → List ℕ
+held_after (Goes place) held c = held ++ c ∷ []
+held_after (Ends place) held c = held ++ c ∷ []
+held_after EndsBefore held c = held
 
 abbrev pub ReferenceTurns : References → ReferencePlace → List ℕ → ℕ → Turn → Type 0
 ReferenceTurns table place held c turn = (foreign : Bool) (mode : Mode) →
-    Turns table foreign mode (CharacterReference place) held c turn (held_behind turn held c)
+    Turns table foreign mode (CharacterReference place) held c turn (held_after turn held c)
 
 abbrev pub goes : ReferencePlace → Turn
 goes place = Goes (CharacterReference place)
@@ -39,7 +39,7 @@ digit_turn place base c = if is_digit base c then goes place
     else (if c == semicolon then Ends (CharacterReference place) else EndsBefore)
 
 -- It goes on, and ends, as a reference.
-abbrev pub IsReference : Place → Type 0
+abbrev pub IsReference : LexemeState → Type 0
 IsReference (CharacterReference place) = Unit {0}
 IsReference _ = ⊥
 

@@ -4,12 +4,13 @@ use Rattle.token_states.specs.MarkupSound.{HasNoGreater, IsOpenComment, is_begun
 use Rattle.token_states.specs.RawSound.{is_raw_held}
 use Rattle.token_states.specs.ReferenceSound.{is_reference_held}
 use Rattle.token_states.specs.TagPlaces.{IsInTag}
-use Rattle.token_states.specs.declared.place.Place.{Place}
-use Rattle.token_states.specs.declared.place.Place.TheVariants.{Text, CharacterReference, TagOpen, EndTagOpen, Tag}
-use Rattle.token_states.specs.declared.place.Place.TheVariants.{MarkupDeclarationOpen, BogusComment, Comment, Doctype}
-use Rattle.token_states.specs.declared.place.Place.TheVariants.{CdataSection, RawText}
+use Rattle.token_states.specs.declared.place.LexemeState.{LexemeState}
+use Rattle.token_states.specs.declared.place.LexemeState.TheVariants.{BogusComment, CdataSection, CharacterReference}
+use Rattle.token_states.specs.declared.place.LexemeState.TheVariants.{Comment, Doctype, EndTagOpen}
+use Rattle.token_states.specs.declared.place.LexemeState.TheVariants.{MarkupDeclarationOpen, RawText, Tag, TagOpen}
+use Rattle.token_states.specs.declared.place.LexemeState.TheVariants.{Text}
 
-abbrev pub IsSound : Place → List ℕ → Type 0
+abbrev pub IsSound : LexemeState → List ℕ → Type 0
 IsSound Text held = held ≡ []
 IsSound (CharacterReference place) held = IsTrue (is_reference_held place held)
 IsSound TagOpen held = held ≡ []

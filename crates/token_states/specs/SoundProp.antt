@@ -2,12 +2,13 @@
 use Rattle.std.specs.Prelude.{ℕ, List}
 use Rattle.std.proofs.Props.{props}
 use Rattle.token_states.specs.Sound.{IsSound}
-use Rattle.token_states.specs.declared.place.Place.{Place}
-use Rattle.token_states.specs.declared.place.Place.TheVariants.{Text, CharacterReference, TagOpen, EndTagOpen, Tag}
-use Rattle.token_states.specs.declared.place.Place.TheVariants.{MarkupDeclarationOpen, BogusComment, Comment, Doctype}
-use Rattle.token_states.specs.declared.place.Place.TheVariants.{CdataSection, RawText}
+use Rattle.token_states.specs.declared.place.LexemeState.{LexemeState}
+use Rattle.token_states.specs.declared.place.LexemeState.TheVariants.{BogusComment, CdataSection, CharacterReference}
+use Rattle.token_states.specs.declared.place.LexemeState.TheVariants.{Comment, Doctype, EndTagOpen}
+use Rattle.token_states.specs.declared.place.LexemeState.TheVariants.{MarkupDeclarationOpen, RawText, Tag, TagOpen}
+use Rattle.token_states.specs.declared.place.LexemeState.TheVariants.{Text}
 
-pub IsSound-prop : (place : Place) (held : List ℕ) → IsProp (IsSound place held)
+pub IsSound-prop : (place : LexemeState) (held : List ℕ) → IsProp (IsSound place held)
 IsSound-prop Text held = hlevel props
 IsSound-prop (CharacterReference place) held = hlevel props
 IsSound-prop TagOpen held = hlevel props

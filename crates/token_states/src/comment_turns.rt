@@ -4,9 +4,9 @@ ghost use Rattle.token_grammar.specs.declared.modes.Mode.{Mode as SeenMode};
 ghost use Rattle.token_states.specs.CommentEnds.{IsClosed, IsNotClosed};
 ghost use Rattle.token_states.specs.MarkupSound.{HasNoGreater, IsOpenComment};
 ghost use Rattle.token_states.specs.Turns.{Turns};
-ghost use Rattle.token_states.specs.declared.place.Place.TheVariants.{BogusComment, Comment};
+ghost use Rattle.token_states.specs.declared.place.LexemeState.TheVariants.{BogusComment, Comment};
 
-use crate::place::Place;
+use crate::place::LexemeState;
 use crate::turn::Turn;
 use std::alloc::AllocError;
 
@@ -18,9 +18,9 @@ pub(crate) fn bogus_comment_turn(held: &mut String, c: char) -> Result<Turn, All
 {
     held.push(c)?;
     if c == '>' {
-        return Ok(Turn::Ends(Place::BogusComment));
+        return Ok(Turn::Ends(LexemeState::BogusComment));
     }
-    Ok(Turn::Goes(Place::BogusComment))
+    Ok(Turn::Goes(LexemeState::BogusComment))
 }
 
 /// A further character of a comment after `<!--`.
@@ -31,9 +31,9 @@ pub(crate) fn comment_turn(held: &mut String, c: char) -> Result<Turn, AllocErro
 {
     held.push(c)?;
     if is_closed(held) {
-        return Ok(Turn::Ends(Place::Comment));
+        return Ok(Turn::Ends(LexemeState::Comment));
     }
-    Ok(Turn::Goes(Place::Comment))
+    Ok(Turn::Goes(LexemeState::Comment))
 }
 
 // a comment that has come to its end

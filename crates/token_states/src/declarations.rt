@@ -2,7 +2,7 @@ ghost use Rattle.std.specs.Prelude.{◌≡◌, chars};
 ghost use Rattle.token_states.specs.Openings.{IsOpening};
 ghost use Rattle.token_states.specs.Spellings.{folded, spelled};
 
-use crate::place::Place;
+use crate::place::LexemeState;
 use token_grammar::slices::first_and_rest;
 
 /// How a text stands to a mark.
@@ -22,7 +22,7 @@ pub(crate) enum Opening {
     /// A beginning of what opens a comment, a doctype or a section.
     Begun,
     /// What opens this place.
-    Opens(Place),
+    Opens(LexemeState),
     /// Something else, which is a bogus comment.
     Other,
 }
@@ -32,12 +32,12 @@ pub(crate) fn declared(foreign: bool, text: &str) -> Opening
     ensures { IsOpening foreign (chars text.now) result }
 {
     match compared(text, "--", false) {
-        Spelled::Whole => return Opening::Opens(Place::Comment),
+        Spelled::Whole => return Opening::Opens(LexemeState::Comment),
         Spelled::Front => return Opening::Begun,
         Spelled::Apart => {}
     }
     match compared(text, "doctype", true) {
-        Spelled::Whole => return Opening::Opens(Place::Doctype),
+        Spelled::Whole => return Opening::Opens(LexemeState::Doctype),
         Spelled::Front => return Opening::Begun,
         Spelled::Apart => {}
     }
@@ -45,7 +45,7 @@ pub(crate) fn declared(foreign: bool, text: &str) -> Opening
         return Opening::Other;
     }
     match compared(text, "[CDATA[", false) {
-        Spelled::Whole => Opening::Opens(Place::CdataSection),
+        Spelled::Whole => Opening::Opens(LexemeState::CdataSection),
         Spelled::Front => Opening::Begun,
         Spelled::Apart => Opening::Other,
     }
@@ -57,13 +57,13 @@ fn compared(text: &str, mark: &str, any_case: bool) -> Spelled
 {
     let mut rest = text;
     'mark: for wanted in mark.chars() {
-        let Some((found, behind)) = first_and_rest(rest) else {
+        let Some((found, trailing)) = first_and_rest(rest) else {
             return Spelled::Front;
         };
         if folded(found, any_case) != wanted {
             return Spelled::Apart;
         }
-        rest = behind;
+        rest = trailing;
     }
     match first_and_rest(rest) {
         None => Spelled::Whole,

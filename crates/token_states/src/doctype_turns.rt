@@ -3,9 +3,9 @@ ghost use Rattle.lex_base.specs.References.{References};
 ghost use Rattle.token_grammar.specs.declared.modes.Mode.{Mode as SeenMode};
 ghost use Rattle.token_states.specs.MarkupSound.{HasNoGreater};
 ghost use Rattle.token_states.specs.Turns.{Turns};
-ghost use Rattle.token_states.specs.declared.place.Place.TheVariants.{Doctype};
+ghost use Rattle.token_states.specs.declared.place.LexemeState.TheVariants.{Doctype};
 
-use crate::place::Place;
+use crate::place::LexemeState;
 use crate::turn::Turn;
 use std::alloc::AllocError;
 
@@ -17,7 +17,7 @@ pub(crate) fn doctype_turn(held: &mut String, c: char) -> Result<Turn, AllocErro
 {
     held.push(c)?;
     if c == '>' {
-        return Ok(Turn::Ends(Place::Doctype));
+        return Ok(Turn::Ends(LexemeState::Doctype));
     }
-    Ok(Turn::Goes(Place::Doctype))
+    Ok(Turn::Goes(LexemeState::Doctype))
 }

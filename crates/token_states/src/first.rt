@@ -6,12 +6,12 @@ ghost use Rattle.token_states.specs.Goings.{has_end_tag, is_name_of_letters, may
 ghost use Rattle.token_states.specs.PlaceKinds.{IsFirstOf};
 ghost use Rattle.token_states.specs.RawSound.{is_escaped};
 
-use crate::place::{Place, RawPlace, ReferencePlace};
+use crate::place::{LexemeState, RawPlace, ReferencePlace};
+use html_lexemes::LocalName;
+use html_lexemes::states::RawKind;
 use token_grammar::TextKind;
 use token_grammar::characters::shown_character;
 use token_grammar::lexemes::may_be_reference;
-use html_lexemes::LocalName;
-use html_lexemes::states::RawKind;
 
 /// What the first character of a lexeme is, before what follows it is known.
 #[derive(Clone, Copy)]
@@ -21,7 +21,7 @@ pub enum First {
     /// A NUL of ordinary text.
     Null,
     /// The opening that this place names.
-    Opens(Place),
+    Opens(LexemeState),
     /// A character of an element's text that more may follow that matters.
     OpensRaw(RawKind, RawPlace),
 }
@@ -37,8 +37,8 @@ pub fn first_of(last: &Option<LocalName>, text: TextKind, c: char) -> First
     match text {
         TextKind::Ordinary => match c {
             '\0' => First::Null,
-            '<' => First::Opens(Place::TagOpen),
-            '&' => First::Opens(Place::CharacterReference(ReferencePlace::Named)),
+            '<' => First::Opens(LexemeState::TagOpen),
+            '&' => First::Opens(LexemeState::CharacterReference(ReferencePlace::Named)),
             _ => First::Text(c),
         },
         TextKind::Plain => First::Text(shown_character(c)),
@@ -56,7 +56,7 @@ fn first_of_raw(last: &Option<LocalName>, kind: RawKind, c: char) -> First
         return First::OpensRaw(kind, RawPlace::LessThanSign);
     }
     if may_be_reference(kind, c) {
-        return First::Opens(Place::CharacterReference(ReferencePlace::Named));
+        return First::Opens(LexemeState::CharacterReference(ReferencePlace::Named));
     }
     if may_end_escape(kind, c) {
         return First::OpensRaw(kind, RawPlace::Dashes);

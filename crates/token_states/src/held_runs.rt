@@ -1,18 +1,20 @@
 ghost use Rattle.std.specs.Prelude.{◌≡◌, MatchOption, None, Some};
 ghost use Rattle.token_states.specs.HeldRuns.{held_stops, tag_stops};
 
-use crate::place::{Place, TagPlace};
+use crate::place::{LexemeState, TagPlace};
 use html_lexemes::states::AttrValueKind;
 
 /// The characters at which a run of what is held at a place stops: any other is held as it is, and the place stays.
 /// `None` is a place at which each character is read by itself.
 #[inline(always)]
-pub fn held_stops(place: Place) -> Option<&'static [char]>
+pub fn held_stops(place: LexemeState) -> Option<&'static [char]>
     ensures { MatchOption result (held_stops place ≡ None) (λ stops. held_stops place ≡ Some stops.now) }
 {
     match place {
-        Place::Tag(_, place) => tag_stops(place),
-        Place::BogusComment | Place::Comment | Place::Doctype => Some(&['\n', '\r', '>']),
+        LexemeState::Tag(_, place) => tag_stops(place),
+        LexemeState::BogusComment | LexemeState::Comment | LexemeState::Doctype => Some(&[
+            '\n', '\r', '>',
+        ]),
         _ => None,
     }
 }

@@ -1,16 +1,19 @@
 ghost use Rattle.std.specs.Prelude.{◌≡◌, chars, IfOk};
 ghost use Rattle.token_grammar.specs.Lexemes.{in_kind, lexeme};
 ghost use Rattle.token_grammar.specs.PlainRead.{lexeme_of};
-ghost use Rattle.token_grammar.specs.Told.{HasRest};
+ghost use Rattle.token_grammar.specs.Emitted.{HasRest};
 ghost use Rattle.token_states.specs.Places.{place_lexeme};
 
-use crate::place::Place;
-use token_grammar::comments::{bogus_comment_slice, comment_slice};
-use token_grammar::lexemes::{Lexeme, comment, declaration, doctype, end_tag, lexeme_at, markup, reference_or_sign, section, tag_or_nothing};
-use token_grammar::{Mode, TextKind};
+use crate::place::LexemeState;
 use html_lexemes::states::RawKind;
 use html_lexemes::{LocalName, ReferenceTable};
 use std::alloc::{AllocError, Global};
+use token_grammar::comments::{bogus_comment_slice, comment_slice};
+use token_grammar::lexemes::{
+    Lexeme, comment, declaration, doctype, end_tag, lexeme_at, markup, reference_or_sign, section,
+    tag_or_nothing,
+};
+use token_grammar::{Mode, TextKind};
 
 /// The lexeme that a whole text is from a place on, and what it leaves of the text. The error is allocation failure
 /// alone.
@@ -19,24 +22,24 @@ pub fn lexeme_from<'t>(
     table: &ReferenceTable,
     foreign: bool,
     mode: &Mode,
-    place: Place,
+    place: LexemeState,
     text: &'t str,
 ) -> Result<Lexeme<'t>, AllocError>
     ensures value { IfOk result (λ l. lexeme_of mode.now l ≡ place_lexeme table.now foreign mode.now place (chars text.now)) }
     ensures utf8 { IfOk result HasRest }
 {
     match place {
-        Place::Text => lexeme_at(alloc, table, foreign, mode, text),
-        Place::CharacterReference(_) => reference_or_sign(alloc, table, mode, text),
-        Place::TagOpen => markup(alloc, table, foreign, mode, text),
-        Place::EndTagOpen => end_tag(alloc, table, mode, text),
-        Place::Tag(kind, _) => tag_or_nothing(alloc, table, kind, text),
-        Place::MarkupDeclarationOpen => declaration(alloc, foreign, mode, text),
-        Place::BogusComment => comment(alloc, mode, bogus_comment_slice(text)),
-        Place::Comment => comment(alloc, mode, comment_slice(text)),
-        Place::Doctype => doctype(alloc, mode, text),
-        Place::CdataSection => section(alloc, mode, text),
-        Place::RawText(kind, _) => raw_lexeme(alloc, table, foreign, mode, kind, text),
+        LexemeState::Text => lexeme_at(alloc, table, foreign, mode, text),
+        LexemeState::CharacterReference(_) => reference_or_sign(alloc, table, mode, text),
+        LexemeState::TagOpen => markup(alloc, table, foreign, mode, text),
+        LexemeState::EndTagOpen => end_tag(alloc, table, mode, text),
+        LexemeState::Tag(kind, _) => tag_or_nothing(alloc, table, kind, text),
+        LexemeState::MarkupDeclarationOpen => declaration(alloc, foreign, mode, text),
+        LexemeState::BogusComment => comment(alloc, mode, bogus_comment_slice(text)),
+        LexemeState::Comment => comment(alloc, mode, comment_slice(text)),
+        LexemeState::Doctype => doctype(alloc, mode, text),
+        LexemeState::CdataSection => section(alloc, mode, text),
+        LexemeState::RawText(kind, _) => raw_lexeme(alloc, table, foreign, mode, kind, text),
     }
 }
 

@@ -14,13 +14,13 @@ ghost use Rattle.token_states.specs.OpenEnds.{IsOpenEnded};
 ghost use Rattle.token_states.specs.PlaceKinds.{IsPlaceOf};
 ghost use Rattle.token_states.specs.Places.{place_lexeme};
 ghost use Rattle.token_states.specs.Sound.{IsSound};
-ghost use Rattle.token_states.specs.declared.place.Place.{Place};
+ghost use Rattle.token_states.specs.declared.place.LexemeState.{LexemeState};
 
 use html_lexemes::ReferenceTable;
 
 /// What is held of a lexeme that goes on is no lexeme yet: none stands there whatever follows.
 pub fn going_is_no_lexeme(table: &ReferenceTable)
-    ensures { (foreign : Bool) (mode : Mode) (place : Place) (held : List ℕ) →
+    ensures { (foreign : Bool) (mode : Mode) (place : LexemeState) (held : List ℕ) →
         IsGoing table.now mode.last_start_tag place held → IsOpenEnded table.now foreign mode place held }
 {
     // a longer name that is waited for is letters, digits and a semicolon
@@ -29,24 +29,24 @@ pub fn going_is_no_lexeme(table: &ReferenceTable)
 
 /// What stands at a place in text of a kind is of it.
 pub fn place_of_a_kind()
-    ensures { (table : References) (foreign : Bool) (mode : Mode) (place : Place) (held : List ℕ) →
+    ensures { (table : References) (foreign : Bool) (mode : Mode) (place : LexemeState) (held : List ℕ) →
         IsPlaceOf mode.text place → LexemeOf mode.text (place_lexeme table foreign mode place held) }
 {}
 
 /// A tag that stands at a place ends with its `>`, right before what follows it.
 pub fn tag_ends_with_its_mark()
-    ensures { (table : References) (foreign : Bool) (mode : Mode) (place : Place) (cs : List ℕ) (t : Tag)
+    ensures { (table : References) (foreign : Bool) (mode : Mode) (place : LexemeState) (cs : List ℕ) (t : Tag)
         (rest : List ℕ) →
         place_lexeme table foreign mode place cs ≡ tagged t rest → (front : List ℕ) × (cs ≡ front ++ greater ∷ rest) }
 {}
 
 /// A run that is free of the stops of a place is held there as it is, and the place stays; no CR is in it.
 pub fn held_run_goes_on()
-    ensures sound { (place : Place) (stops held run : List ℕ) → held_stops place ≡ Some stops →
+    ensures sound { (place : LexemeState) (stops held run : List ℕ) → held_stops place ≡ Some stops →
         IsTrue (is_free_of stops run) → IsSound place held → IsSound place (held ++ run) }
-    ensures going { (table : References) (last : Option (List ℕ)) (place : Place) (stops held run : List ℕ) →
+    ensures going { (table : References) (last : Option (List ℕ)) (place : LexemeState) (stops held run : List ℕ) →
         held_stops place ≡ Some stops → IsTrue (is_free_of stops run) → IsGoing table last place held →
         IsGoing table last place (held ++ run) }
-    ensures lines { (place : Place) (stops run : List ℕ) → held_stops place ≡ Some stops →
+    ensures lines { (place : LexemeState) (stops run : List ℕ) → held_stops place ≡ Some stops →
         IsTrue (is_free_of stops run) → IsTrue (list_all (λ c. not (c == 13)) run) }
 {}

@@ -54,7 +54,7 @@ pub use first::{First, first_of};
 pub use held_runs::held_stops;
 pub use last::lexeme_from;
 pub use markup_turns::markup_turn;
-pub use place::{Place, RawPlace, ReferencePlace, TagPlace};
+pub use place::{LexemeState, RawPlace, ReferencePlace, TagPlace};
 pub use raw_text_turns::raw_turn;
 pub use section_turns::{SectionTurn, section_turn};
 pub use turn::{RawTurn, Turn};

@@ -3,12 +3,12 @@ ghost use Rattle.token_grammar.specs.declared.modes.Mode.{Mode as SeenMode};
 ghost use Rattle.token_states.specs.PlaceKinds.{IsNoMarkup, KeepsKind};
 ghost use Rattle.token_states.specs.Sound.{IsSound};
 ghost use Rattle.token_states.specs.Turns.{Turns};
-ghost use Rattle.token_states.specs.declared.place.Place.TheVariants.{MarkupDeclarationOpen};
+ghost use Rattle.token_states.specs.declared.place.LexemeState.TheVariants.{MarkupDeclarationOpen};
 
 use crate::comment_turns::{bogus_comment_turn, comment_turn};
 use crate::doctype_turns::doctype_turn;
 use crate::open_turns::{declaration_turn, end_tag_open_turn, tag_open_turn};
-use crate::place::Place;
+use crate::place::LexemeState;
 use crate::reference_places::reference_turn;
 use crate::tag_turns::tag_turn;
 use crate::turn::Turn;
@@ -20,7 +20,7 @@ use std::alloc::AllocError;
 pub fn markup_turn(
     table: &ReferenceTable,
     foreign: bool,
-    place: Place,
+    place: LexemeState,
     held: &mut String,
     c: char,
 ) -> Result<Option<Turn>, AllocError>
@@ -31,15 +31,15 @@ pub fn markup_turn(
     ensures kind { IfOk result (λ done. IfSome done (KeepsKind place)) }
 {
     let turn = match place {
-        Place::CharacterReference(place) => reference_turn(table, place, held, c)?,
-        Place::TagOpen => tag_open_turn(held, c)?,
-        Place::EndTagOpen => end_tag_open_turn(held, c)?,
-        Place::Tag(kind, place) => tag_turn(kind, place, held, c)?,
-        Place::MarkupDeclarationOpen => declaration_turn(foreign, held, c)?,
-        Place::BogusComment => bogus_comment_turn(held, c)?,
-        Place::Comment => comment_turn(held, c)?,
-        Place::Doctype => doctype_turn(held, c)?,
-        Place::Text | Place::CdataSection | Place::RawText(..) => return Ok(None),
+        LexemeState::CharacterReference(place) => reference_turn(table, place, held, c)?,
+        LexemeState::TagOpen => tag_open_turn(held, c)?,
+        LexemeState::EndTagOpen => end_tag_open_turn(held, c)?,
+        LexemeState::Tag(kind, place) => tag_turn(kind, place, held, c)?,
+        LexemeState::MarkupDeclarationOpen => declaration_turn(foreign, held, c)?,
+        LexemeState::BogusComment => bogus_comment_turn(held, c)?,
+        LexemeState::Comment => comment_turn(held, c)?,
+        LexemeState::Doctype => doctype_turn(held, c)?,
+        LexemeState::Text | LexemeState::CdataSection | LexemeState::RawText(..) => return Ok(None),
     };
     Ok(Some(turn))
 }

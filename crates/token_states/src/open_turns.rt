@@ -3,10 +3,10 @@ ghost use Rattle.lex_base.specs.References.{References};
 ghost use Rattle.token_grammar.specs.declared.modes.Mode.{Mode as SeenMode};
 ghost use Rattle.token_states.specs.MarkupSound.{is_begun_declaration};
 ghost use Rattle.token_states.specs.Turns.{Turns};
-ghost use Rattle.token_states.specs.declared.place.Place.TheVariants.{EndTagOpen, MarkupDeclarationOpen, TagOpen};
+ghost use Rattle.token_states.specs.declared.place.LexemeState.TheVariants.{EndTagOpen, MarkupDeclarationOpen, TagOpen};
 
 use crate::declarations::{Opening, declared};
-use crate::place::{Place, TagPlace};
+use crate::place::{LexemeState, TagPlace};
 use crate::turn::Turn;
 use html_lexemes::TagKind;
 use std::alloc::AllocError;
@@ -19,14 +19,14 @@ pub(crate) fn tag_open_turn(held: &mut String, c: char) -> Result<Turn, AllocErr
 {
     if c.is_ascii_alphabetic() {
         held.push(c)?;
-        return Ok(Turn::Goes(Place::Tag(TagKind::StartTag, TagPlace::TagName)));
+        return Ok(Turn::Goes(LexemeState::Tag(TagKind::StartTag, TagPlace::TagName)));
     }
     match c {
-        '/' => Ok(Turn::Goes(Place::EndTagOpen)),
-        '!' => Ok(Turn::Goes(Place::MarkupDeclarationOpen)),
+        '/' => Ok(Turn::Goes(LexemeState::EndTagOpen)),
+        '!' => Ok(Turn::Goes(LexemeState::MarkupDeclarationOpen)),
         '?' => {
             held.push(c)?;
-            Ok(Turn::Goes(Place::BogusComment))
+            Ok(Turn::Goes(LexemeState::BogusComment))
         }
         _ => Ok(Turn::EndsBefore),
     }
@@ -40,12 +40,12 @@ pub(crate) fn end_tag_open_turn(held: &mut String, c: char) -> Result<Turn, Allo
 {
     held.push(c)?;
     if c.is_ascii_alphabetic() {
-        return Ok(Turn::Goes(Place::Tag(TagKind::EndTag, TagPlace::TagName)));
+        return Ok(Turn::Goes(LexemeState::Tag(TagKind::EndTag, TagPlace::TagName)));
     }
     if c == '>' {
-        return Ok(Turn::Ends(Place::EndTagOpen));
+        return Ok(Turn::Ends(LexemeState::EndTagOpen));
     }
-    Ok(Turn::Goes(Place::BogusComment))
+    Ok(Turn::Goes(LexemeState::BogusComment))
 }
 
 /// A further character after `<!`; `foreign` says that the adjusted current node is foreign.
@@ -61,12 +61,12 @@ pub(crate) fn declaration_turn(
 {
     held.push(c)?;
     match declared(foreign, held) {
-        Opening::Begun => Ok(Turn::Goes(Place::MarkupDeclarationOpen)),
+        Opening::Begun => Ok(Turn::Goes(LexemeState::MarkupDeclarationOpen)),
         Opening::Opens(place) => {
             held.clear();
             Ok(Turn::Goes(place))
         }
-        Opening::Other if c == '>' => Ok(Turn::Ends(Place::BogusComment)),
-        Opening::Other => Ok(Turn::Goes(Place::BogusComment)),
+        Opening::Other if c == '>' => Ok(Turn::Ends(LexemeState::BogusComment)),
+        Opening::Other => Ok(Turn::Goes(LexemeState::BogusComment)),
     }
 }

@@ -4,7 +4,7 @@ use html_lexemes::states::{AttrValueKind, RawKind};
 /// Where the tokenizer stands in a lexeme that is not over. What is held back is what stands after the
 /// opening that the place names.
 #[derive(Clone, Copy)]
-pub enum Place {
+pub enum LexemeState {
     /// Before a lexeme.
     Text,
     /// After `&` in text (WHATWG HTML, 13.2.5.72).

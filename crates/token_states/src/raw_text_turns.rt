@@ -1,12 +1,12 @@
-ghost use Rattle.std.specs.Prelude.{◌≡◌, Bool, ◌&&◌, nat_lt, ◌∷◌, [], length, drop, chars, string_bytes, IfOk, OnOk};
-ghost use Rattle.std.specs.Prelude.{IsTrue};
+ghost use Rattle.std.specs.Prelude.{◌≡◌, ◌&&◌, ◌∷◌, [], Bool, IfOk, IsTrue, OnOk, chars, drop, length, nat_lt};
+ghost use Rattle.std.specs.Prelude.{string_bytes};
 ghost use Rattle.std.specs.List.{list_all};
 ghost use Rattle.lex_base.specs.References.{References};
 ghost use Rattle.token_grammar.specs.Characters.{is_letter, name_of};
 ghost use Rattle.token_grammar.specs.Lexemes.{has_end_tags, is_last};
 ghost use Rattle.token_grammar.specs.declared.modes.Mode.{Mode as SeenMode};
 ghost use Rattle.token_states.specs.Goings.{is_end_tag_front, is_raw_going};
-ghost use Rattle.token_states.specs.RawHeld.{held_behind};
+ghost use Rattle.token_states.specs.RawHeld.{held_after};
 ghost use Rattle.token_states.specs.RawTurns.{RawTurns};
 ghost use Rattle.token_states.specs.declared.place.RawPlace.TheVariants.{EndTagName};
 
@@ -14,11 +14,11 @@ use crate::first::has_end_tag;
 use crate::place::RawPlace;
 use crate::script_turns::{at_dashes, at_escape_start, at_escape_word, goes_on};
 use crate::turn::RawTurn;
-use token_grammar::slices::{CharacterClass, behind};
-use token_grammar::tags::name_of;
 use html_lexemes::LocalName;
 use html_lexemes::states::{RawKind, ScriptEscapeKind};
 use std::alloc::{AllocError, Global};
+use token_grammar::slices::{CharacterClass, trailing};
+use token_grammar::tags::name_of;
 
 /// What a further character does to what is held of the text of an element, of a kind, at a place; `last` is the name
 /// of the last start tag. What is held is then what it is after that turn. The error is allocation failure alone.
@@ -52,7 +52,7 @@ fn turn_at(
     requires { IsTrue (is_raw_going last.now kind place (chars held.now)) }
     ensures { IfOk result (λ turn. (table : References) (foreign : Bool) (mode : SeenMode) →
         mode.last_start_tag ≡ last.now →
-        RawTurns table foreign mode kind (chars held.now) c turn (held_behind turn (chars held.now) c)) }
+        RawTurns table foreign mode kind (chars held.now) c turn (held_after turn (chars held.now) c)) }
 {
     match place {
         RawPlace::LessThanSign => Ok(at_less_than_sign(last, kind, c)),
@@ -65,7 +65,7 @@ fn turn_at(
 
 // changes what is held to what it is after a turn
 fn take(turn: RawTurn, held: &mut String, c: char) -> Result<(), AllocError>
-    ensures { OnOk result (chars (string_bytes held.new) ≡ held_behind turn (chars (string_bytes held.old)) c) }
+    ensures { OnOk result (chars (string_bytes held.new) ≡ held_after turn (chars (string_bytes held.old)) c) }
 {
     match turn {
         RawTurn::Goes(_) => held.push(c),
@@ -94,7 +94,7 @@ fn drop_first(held: &mut String)
 // at `<`
 fn at_less_than_sign(last: &Option<LocalName>, kind: RawKind, c: char) -> RawTurn
     ensures { (table : References) (foreign : Bool) (mode : SeenMode) → mode.last_start_tag ≡ last.now →
-        RawTurns table foreign mode kind (60 ∷ []) c result (held_behind result (60 ∷ []) c) }
+        RawTurns table foreign mode kind (60 ∷ []) c result (held_after result (60 ∷ []) c) }
 {
     match kind {
         RawKind::Rcdata | RawKind::Rawtext => match c {
@@ -122,7 +122,7 @@ fn at_less_than_sign(last: &Option<LocalName>, kind: RawKind, c: char) -> RawTur
 fn at_slash(last: &Option<LocalName>, kind: RawKind) -> RawTurn
     requires { IsTrue (has_end_tags kind) }
     ensures { (table : References) (foreign : Bool) (mode : SeenMode) → mode.last_start_tag ≡ last.now →
-        RawTurns table foreign mode kind (60 ∷ []) 47 result (held_behind result (60 ∷ []) 47) }
+        RawTurns table foreign mode kind (60 ∷ []) 47 result (held_after result (60 ∷ []) 47) }
 {
     if has_end_tag(last) {
         RawTurn::Goes(RawPlace::EndTagName)
@@ -142,9 +142,9 @@ fn at_end_tag_name(
     requires { IsTrue (is_raw_going last.now kind EndTagName (chars held.now)) }
     ensures { IfOk result (λ turn. (table : References) (foreign : Bool) (mode : SeenMode) →
         mode.last_start_tag ≡ last.now →
-        RawTurns table foreign mode kind (chars held.now) c turn (held_behind turn (chars held.now) c)) }
+        RawTurns table foreign mode kind (chars held.now) c turn (held_after turn (chars held.now) c)) }
 {
-    let Some(letters) = behind(held, "</") else {
+    let Some(letters) = trailing(held, "</") else {
         return Ok(RawTurn::Before(kind));
     };
     if c.is_ascii_alphabetic() {
@@ -167,7 +167,7 @@ fn at_letter(last: &Option<LocalName>, kind: RawKind, letters: &str, c: char) ->
     requires letter { IsTrue (is_letter c) }
     ensures { (table : References) (foreign : Bool) (mode : SeenMode) → mode.last_start_tag ≡ last.now →
         RawTurns table foreign mode kind (60 ∷ 47 ∷ chars letters.now) c result
-        (held_behind result (60 ∷ 47 ∷ chars letters.now) c) }
+        (held_after result (60 ∷ 47 ∷ chars letters.now) c) }
 {
     let Some(name) = last else {
         return RawTurn::Before(kind);

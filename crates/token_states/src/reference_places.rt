@@ -5,7 +5,7 @@ ghost use Rattle.token_states.specs.ReferenceTurns.{ReferenceTurns, StaysInRefer
 ghost use Rattle.token_states.specs.ReferenceTurns.{hexadecimal_turn, number_turn};
 ghost use Rattle.token_states.specs.Turns.{Turns};
 
-use crate::place::{Place, ReferencePlace};
+use crate::place::{LexemeState, ReferencePlace};
 use crate::turn::Turn;
 use html_lexemes::ReferenceTable;
 use std::alloc::AllocError;
@@ -19,13 +19,13 @@ pub(crate) fn reference_turn(
 ) -> Result<Turn, AllocError>
     requires { IsTrue (is_reference_held place (chars (string_bytes held.old))) }
     ensures turns { IfOk result (λ turn. (foreign : Bool) (mode : SeenMode)
-        → Turns table.now foreign mode (Place.CharacterReference place) (chars (string_bytes held.old)) c turn
+        → Turns table.now foreign mode (LexemeState.CharacterReference place) (chars (string_bytes held.old)) c turn
         (chars (string_bytes held.new))) }
     ensures kind { IfOk result StaysInReference }
 {
     let length = held.len();
     held.push(c)?;
-    let turn = turn_behind(table, place, held.as_str(), c);
+    let turn = turn_after(table, place, held.as_str(), c);
     if let Turn::EndsBefore = turn {
         held.truncate(length);
     }
@@ -33,7 +33,7 @@ pub(crate) fn reference_turn(
 }
 
 // What the last character of a text does.
-fn turn_behind(table: &ReferenceTable, place: ReferencePlace, text: &str, c: char) -> Turn
+fn turn_after(table: &ReferenceTable, place: ReferencePlace, text: &str, c: char) -> Turn
     ensures turns { (held : List ℕ) → chars text.now ≡ held ++ c ∷ [] → IsTrue (is_reference_held place held)
         → ReferenceTurns table.now place held c result }
     ensures kind { StaysInReference result }
@@ -62,7 +62,7 @@ fn name_turn(table: &ReferenceTable, text: &str) -> Turn
     } else if table.has_longer_name(text) {
         goes(ReferencePlace::Named)
     } else {
-        Turn::Ends(Place::CharacterReference(ReferencePlace::Named))
+        Turn::Ends(LexemeState::CharacterReference(ReferencePlace::Named))
     }
 }
 
@@ -99,7 +99,7 @@ fn digit_turn(place: ReferencePlace, radix: u32, c: char) -> Turn
     if c.is_digit(radix) {
         goes(place)
     } else if c == ';' {
-        Turn::Ends(Place::CharacterReference(place))
+        Turn::Ends(LexemeState::CharacterReference(place))
     } else {
         Turn::EndsBefore
     }
@@ -108,5 +108,5 @@ fn digit_turn(place: ReferencePlace, radix: u32, c: char) -> Turn
 fn goes(place: ReferencePlace) -> Turn
     ensures { result ≡ goes place }
 {
-    Turn::Goes(Place::CharacterReference(place))
+    Turn::Goes(LexemeState::CharacterReference(place))
 }

@@ -1,11 +1,11 @@
 //! What is held at places, computed on worked rows.
 ghost use Rattle.std.specs.Prelude.{◌≡◌, [], ◌∷◌, true, false, codes, Some, None};
 ghost use Rattle.lex_base.specs.References.{References};
-ghost use Rattle.html_lexemes.specs.declared.states.RawKind.TheVariants.{Rcdata, Rawtext, ScriptData};
+ghost use Rattle.html_lexemes.specs.declared.states.RawKind.TheVariants.{Rawtext, Rcdata, ScriptData};
 ghost use Rattle.html_lexemes.specs.declared.states.RawKind.TheVariants.{ScriptDataEscaped};
 ghost use Rattle.html_lexemes.specs.declared.states.ScriptEscapeKind.TheVariants.{Escaped, DoubleEscaped};
 ghost use Rattle.token_grammar.specs.Items.{comment};
-ghost use Rattle.token_grammar.specs.Lexemes.{nothing, ordinary_item, told};
+ghost use Rattle.token_grammar.specs.Lexemes.{nothing, ordinary_item, emitted};
 ghost use Rattle.token_grammar.specs.declared.modes.Mode.{Mode};
 ghost use Rattle.token_states.specs.Goings.{is_raw_going};
 ghost use Rattle.token_states.specs.MarkupSound.{is_begun_declaration, is_begun_section_end};
@@ -13,8 +13,8 @@ ghost use Rattle.token_states.specs.PlaceKinds.{is_of_text, is_open};
 ghost use Rattle.token_states.specs.Places.{place_lexeme};
 ghost use Rattle.token_states.specs.RawSound.{is_raw_held};
 ghost use Rattle.token_states.specs.ReferenceSound.{is_reference_held};
-ghost use Rattle.token_states.specs.declared.place.Place.TheVariants.{BogusComment, CdataSection, CharacterReference};
-ghost use Rattle.token_states.specs.declared.place.Place.TheVariants.{RawText, TagOpen, Text};
+ghost use Rattle.token_states.specs.declared.place.LexemeState.TheVariants.{BogusComment, CdataSection};
+ghost use Rattle.token_states.specs.declared.place.LexemeState.TheVariants.{CharacterReference, RawText, TagOpen, Text};
 ghost use Rattle.token_states.specs.declared.place.RawPlace.TheVariants.{Dashes, EndTagName, EscapeStart, EscapeWord};
 ghost use Rattle.token_states.specs.declared.place.RawPlace.TheVariants.{LessThanSign};
 ghost use Rattle.token_states.specs.declared.place.ReferencePlace.TheVariants.{Decimal, Hexadecimal, HexadecimalStart};
@@ -90,8 +90,8 @@ fn ends_of_rows()
 
 fn lexemes_of_rows()
     ensures bogus { (table : References) (mode : Mode) → place_lexeme table false mode BogusComment (codes "a>b")
-        ≡ told (comment (codes "a") ∷ []) mode (codes "b") }
+        ≡ emitted (comment (codes "a") ∷ []) mode (codes "b") }
     ensures section { (table : References) (mode : Mode) → place_lexeme table true mode CdataSection (codes "a]]>b")
-        ≡ told (ordinary_item 97 ∷ []) mode (codes "b") }
+        ≡ emitted (ordinary_item 97 ∷ []) mode (codes "b") }
     ensures tag { (table : References) (mode : Mode) → place_lexeme table false mode TagOpen (codes "p") ≡ nothing }
 {}

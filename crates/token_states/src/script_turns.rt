@@ -2,21 +2,21 @@ ghost use Rattle.std.specs.Prelude.{◌≡◌, Bool, IsTrue, chars};
 ghost use Rattle.std.specs.Char.{to_ascii_lowercase};
 ghost use Rattle.lex_base.specs.References.{References};
 ghost use Rattle.token_grammar.specs.declared.modes.Mode.{Mode as SeenMode};
-ghost use Rattle.token_states.specs.RawHeld.{held_behind, is_at, other_part};
+ghost use Rattle.token_states.specs.RawHeld.{held_after, is_at, other_part};
 ghost use Rattle.token_states.specs.RawSound.{is_raw_held, word_of};
 ghost use Rattle.token_states.specs.RawTurns.{RawTurns};
 ghost use Rattle.token_states.specs.declared.place.RawPlace.TheVariants.{Dashes, EscapeStart, EscapeWord};
 
 use crate::place::RawPlace;
 use crate::turn::RawTurn;
-use token_grammar::slices::CharacterClass;
 use html_lexemes::states::{RawKind, ScriptEscapeKind};
+use token_grammar::slices::CharacterClass;
 
 /// At one or two dashes of an escaped part, which `-->` ends.
 pub(crate) fn at_dashes(kind: RawKind, held: &str, c: char) -> RawTurn
     requires { IsTrue (is_raw_held kind Dashes (chars held.now)) }
     ensures { (table : References) (foreign : Bool) (mode : SeenMode) →
-        RawTurns table foreign mode kind (chars held.now) c result (held_behind result (chars held.now) c) }
+        RawTurns table foreign mode kind (chars held.now) c result (held_after result (chars held.now) c) }
 {
     if held.len() == 1 {
         return match c {
@@ -35,7 +35,7 @@ pub(crate) fn at_dashes(kind: RawKind, held: &str, c: char) -> RawTurn
 pub(crate) fn at_escape_start(kind: RawKind, held: &str, c: char) -> RawTurn
     requires { IsTrue (is_raw_held kind EscapeStart (chars held.now)) }
     ensures { (table : References) (foreign : Bool) (mode : SeenMode) →
-        RawTurns table foreign mode kind (chars held.now) c result (held_behind result (chars held.now) c) }
+        RawTurns table foreign mode kind (chars held.now) c result (held_after result (chars held.now) c) }
 {
     if c != '-' {
         return RawTurn::Before(kind);
@@ -51,7 +51,7 @@ pub(crate) fn at_escape_start(kind: RawKind, held: &str, c: char) -> RawTurn
 pub(crate) fn at_escape_word(kind: RawKind, held: &str, c: char) -> RawTurn
     requires { IsTrue (is_raw_held kind EscapeWord (chars held.now)) }
     ensures { (table : References) (foreign : Bool) (mode : SeenMode) →
-        RawTurns table foreign mode kind (chars held.now) c result (held_behind result (chars held.now) c) }
+        RawTurns table foreign mode kind (chars held.now) c result (held_after result (chars held.now) c) }
 {
     let word = word_of(kind);
     if goes_on(word, held.len(), c) {

@@ -25,7 +25,7 @@ pub fn section_turn(held: &mut String, c: char) -> Result<SectionTurn, AllocErro
         SectionTurns mode (chars (string_bytes held.old)) c turn (chars (string_bytes held.new))) }
 {
     if held.as_str() == "]]" {
-        return Ok(behind_brackets(c));
+        return Ok(after_brackets(c));
     }
     if c != ']' {
         return Ok(SectionTurn::Text);
@@ -35,7 +35,7 @@ pub fn section_turn(held: &mut String, c: char) -> Result<SectionTurn, AllocErro
 }
 
 // what a character does after two brackets that are held
-fn behind_brackets(c: char) -> SectionTurn
+fn after_brackets(c: char) -> SectionTurn
     ensures { (mode : SeenMode) → SectionTurns mode (codes "]]") c result (codes "]]") }
 {
     match c {

@@ -4,8 +4,8 @@ ghost use Rattle.token_states.specs.TagPlaces.{rest_in};
 ghost use Rattle.token_states.specs.declared.place.TagPlace.TheVariants.{AttributeValue};
 
 use crate::place::TagPlace;
-use token_grammar::slices::CharacterClass;
 use html_lexemes::states::AttrValueKind;
+use token_grammar::slices::CharacterClass;
 
 impl TagPlace {
     /// The place after a further character of a tag. `None` is the end: the character is the tag's `>`.

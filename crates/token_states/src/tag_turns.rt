@@ -4,9 +4,9 @@ ghost use Rattle.token_grammar.specs.declared.modes.Mode.{Mode as SeenMode};
 ghost use Rattle.token_states.specs.PlaceKinds.{KeepsKind};
 ghost use Rattle.token_states.specs.TagPlaces.{IsInTag};
 ghost use Rattle.token_states.specs.Turns.{Turns};
-ghost use Rattle.token_states.specs.declared.place.Place.TheVariants.{Tag};
+ghost use Rattle.token_states.specs.declared.place.LexemeState.TheVariants.{Tag};
 
-use crate::place::{Place, TagPlace};
+use crate::place::{LexemeState, TagPlace};
 use crate::turn::Turn;
 use html_lexemes::TagKind;
 use std::alloc::AllocError;
@@ -26,7 +26,7 @@ pub(crate) fn tag_turn(
 {
     held.push(c)?;
     match place.next(c) {
-        Some(next) => Ok(Turn::Goes(Place::Tag(kind, next))),
-        None => Ok(Turn::Ends(Place::Tag(kind, place))),
+        Some(next) => Ok(Turn::Goes(LexemeState::Tag(kind, next))),
+        None => Ok(Turn::Ends(LexemeState::Tag(kind, place))),
     }
 }

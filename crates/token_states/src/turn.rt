@@ -1,13 +1,13 @@
-use crate::place::{Place, RawPlace};
+use crate::place::{LexemeState, RawPlace};
 use html_lexemes::states::RawKind;
 
 /// What a further character does to a lexeme that is not over.
 #[derive(Clone, Copy)]
 pub enum Turn {
     /// The character is held, and the lexeme goes on at this place.
-    Goes(Place),
+    Goes(LexemeState),
     /// The character is held, and the lexeme, which is one of this place, ends with it.
-    Ends(Place),
+    Ends(LexemeState),
     /// The lexeme was over before the character, which isn't held.
     EndsBefore,
 }

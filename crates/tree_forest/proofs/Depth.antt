@@ -1,6 +1,6 @@
 -- Whatever goes down a forest needs no more fuel than there are nodes: no path of a forest is longer.
-use Rattle.std.proofs.Common.{◌≡◌, ℕ, zero, suc, ◌+◌, ◌<◌, ◌≤◌, ◌⊎◌, Bool, true, false, ◌||◌, List, [], ◌∷◌, length}
-use Rattle.std.proofs.Common.{refl, sym, ap, subst, arith, inl, inr, eqb}
+use Rattle.std.proofs.Common.{◌≡◌, ◌+◌, ◌<◌, ◌≤◌, ◌⊎◌, ◌||◌, [], ◌∷◌, Bool, List, ap, arith, eqb, false, inl, inr}
+use Rattle.std.proofs.Common.{length, refl, subst, suc, sym, true, zero, ℕ}
 use Rattle.std.proofs.lemmas.Bool.Decides.{nat_tests}
 use Rattle.std.proofs.lemmas.Map.Steps.{length-le_from_distinct_below}
 use Rattle.std.specs.Bool.{nat_lt}

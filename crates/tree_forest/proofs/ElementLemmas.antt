@@ -3,8 +3,8 @@ use Rattle.std.proofs.Common.{◌≡◌, ℕ, zero, suc, refl, ap, ◌∙◌, Bo
 use Rattle.html_lexemes.specs.declared.names.Attribute.{Attribute}
 use Rattle.html_lexemes.specs.declared.names.QualName.{QualName}
 use Rattle.tree_forest.specs.Changes.{kind_with, made, made_element, saying, saying_kind, with_attributes}
-use Rattle.tree_forest.specs.Forest.{Forest, Holds, IsElement, IsElementKind, Kind, comment, doctype, document}
-use Rattle.tree_forest.specs.Forest.{element, instruction, kind_at, nodes, text}
+use Rattle.tree_forest.specs.Forest.{Forest, Holds, IsElement, IsElementKind, Kind, comment, doctype, document, element}
+use Rattle.tree_forest.specs.Forest.{instruction, kind_at, nodes, text}
 use Rattle.tree_forest.specs.Places.{Place, put_words}
 use Rattle.tree_forest.proofs.LawPlaces.{put_kinds}
 use Rattle.tree_forest.proofs.Nodes.{attributed, changed_has, kind_made, size_made}

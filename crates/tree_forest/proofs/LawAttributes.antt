@@ -2,9 +2,9 @@
 use Rattle.std.proofs.Common.{◌≡◌, ℕ, List, refl, ap, ◌∙◌}
 use Rattle.html_lexemes.specs.declared.names.Attribute.{Attribute}
 use Rattle.tree_forest.specs.Changes.{kind_with, with_attributes, with_missing}
-use Rattle.tree_forest.specs.Forest.{Forest, Holds, IsElement, IsElementKind, Kind, attributes_of, children_at}
-use Rattle.tree_forest.specs.Forest.{comment, contents_of, doctype, document, element, element_of, instruction}
-use Rattle.tree_forest.specs.Forest.{kind_at, name_of, text}
+use Rattle.tree_forest.specs.Forest.{Forest, Holds, IsElement, IsElementKind, Kind, attributes_of, children_at, comment}
+use Rattle.tree_forest.specs.Forest.{contents_of, doctype, document, element, element_of, instruction, kind_at, name_of}
+use Rattle.tree_forest.specs.Forest.{text}
 use Rattle.tree_forest.proofs.LawNodes.{changed_here}
 use Rattle.tree_forest.proofs.Nodes.{attributed, contents_with, kept}
 

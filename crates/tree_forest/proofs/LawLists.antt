@@ -1,6 +1,6 @@
 -- Numbers in a list: whether one is there, one that is put before another, and one that is left out.
-use Rattle.std.proofs.Common.{◌≡◌, ℕ, Bool, true, false, ◌==◌, if◌then◌else◌, ◌⊎◌, inl, inr, List, [], ◌∷◌, ◌++◌}
-use Rattle.std.proofs.Common.{Some, refl, sym, ap, ◌∙◌, subst}
+use Rattle.std.proofs.Common.{◌≡◌, ◌==◌, if◌then◌else◌, ◌⊎◌, [], ◌∷◌, ◌++◌, ◌∙◌, Bool, List, Some, ap, false, inl, inr}
+use Rattle.std.proofs.Common.{refl, subst, sym, true, ℕ}
 use Rattle.std.proofs.lemmas.Bool.{cases_eq, eq-eqb, ne_eqb}
 use Rattle.tree_forest.specs.Changes.{left_out}
 use Rattle.tree_forest.specs.Forest.{is_in}

@@ -1,9 +1,8 @@
 -- The nodes of a forest after a change.
-use Rattle.std.proofs.Common.{◌≡◌, ℕ, zero, suc, ◌+◌, if◌then◌else◌, [], ◌∷◌, Some, refl, sym, ap, ◌∙◌, add-zero}
-use Rattle.std.proofs.Common.{zero-add, arith}
+use Rattle.std.proofs.Common.{◌≡◌, ◌+◌, if◌then◌else◌, [], ◌∷◌, ◌∙◌, Some, add-zero, ap, arith, refl, suc, sym, zero}
+use Rattle.std.proofs.Common.{zero-add, ℕ}
 use Rattle.tree_forest.specs.Changes.{changed}
-use Rattle.tree_forest.specs.Forest.{Forest, Holds, Node, children_at, node_at}
-use Rattle.tree_forest.specs.Forest.{parent_from, parent_of}
+use Rattle.tree_forest.specs.Forest.{Forest, Holds, Node, children_at, node_at, parent_from, parent_of}
 use Rattle.tree_forest.specs.Orders.{IsForest, IsIn, of_child}
 use Rattle.tree_forest.proofs.LawLists.{is_in_false, is_in_true}
 

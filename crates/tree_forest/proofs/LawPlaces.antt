@@ -5,7 +5,7 @@ use Rattle.tree_forest.specs.Changes.{changed, childless, detached, left_out, re
 use Rattle.tree_forest.specs.Conditions.{CanPut}
 use Rattle.tree_forest.specs.Forest.{Forest, Holds, children_at, kind_at}
 use Rattle.tree_forest.specs.Orders.{AreDistinct, IsForest, IsIn, of_child}
-use Rattle.tree_forest.specs.Places.{Place, before, behind, below, in_front, node, parent_at, put_before, put_node}
+use Rattle.tree_forest.specs.Places.{Place, before, trailing, below, in_front, node, parent_at, put_before, put_node}
 use Rattle.tree_forest.proofs.LawLists.{left_out_at, left_out_none, not_in_front, put_before_at, put_before_none}
 use Rattle.tree_forest.proofs.LawNodes.{changed_here, changed_other, parent_is}
 use Rattle.tree_forest.proofs.Nodes.{kept, mapped_at}
@@ -13,7 +13,7 @@ use Rattle.tree_forest.proofs.Numbers.{in_left_out, in_put_before}
 
 -- the children of nodes after a node is put
 pub put_below : (p n : ℕ) (f : Forest) → Holds p f → children_at p (put_node (below p) n f) ≡ children_at p f ++ n ∷ []
-put_below p n f h = ap (λ x. x.children) (changed_here (behind n) p f h)
+put_below p n f h = ap (λ x. x.children) (changed_here (trailing n) p f h)
 
 pub put_in_front : (s n p : ℕ) (f : Forest) → children_at p (put_node (before s) n f) ≡ put_before s n (children_at p f)
 put_in_front s n p f = ap (λ x. x.children) (mapped_at p (in_front s n) f refl)
@@ -29,7 +29,7 @@ put_there (below p) n q f forest can h = by (cases_eq q p) where
   by : (q ≡ p) ⊎ (q ≡ p → ⊥) → Some p ≡ Some q
   by (inl e) = ap Some (sym e)
   by (inr off) = absurd (can.1.free q (of_child q n
-      (subst (IsIn n) (ap (λ x. x.children) (changed_other (behind n) p q f off)) h)))
+      (subst (IsIn n) (ap (λ x. x.children) (changed_other (trailing n) p q f off)) h)))
 put_there (before s) n q f forest can h =
     by (in_put_before n s n (children_at q f) (subst (IsIn n) (put_in_front s n q f) h)) where
       by : IsIn n (children_at q f) ⊎ ((n ≡ n) × IsIn s (children_at q f)) → parent_at (before s) f ≡ Some q
@@ -38,12 +38,12 @@ put_there (before s) n q f forest can h =
 
 -- what a node that is put leaves
 pub put_kinds : (place : Place) (n m : ℕ) (f : Forest) → kind_at m (put_node place n f) ≡ kind_at m f
-put_kinds (below p) n m f = kept (λ x. x.kind) (behind n) p m f (λ x. refl)
+put_kinds (below p) n m f = kept (λ x. x.kind) (trailing n) p m f (λ x. refl)
 put_kinds (before s) n m f = ap (λ x. x.kind) (mapped_at m (in_front s n) f refl)
 
 pub put_children : (place : Place) (n q : ℕ) (f : Forest) → IsForest f → ¬ (parent_at place f ≡ Some q)
     → children_at q (put_node place n f) ≡ children_at q f
-put_children (below p) n q f forest h = ap (λ x. x.children) (changed_other (behind n) p q f (λ e. h (ap Some (sym e))))
+put_children (below p) n q f forest h = ap (λ x. x.children) (changed_other (trailing n) p q f (λ e. h (ap Some (sym e))))
 put_children (before s) n q f forest h = put_in_front s n q f
     ∙ put_before_none s n (children_at q f) (λ i. h (parent_is s q f forest i))
 

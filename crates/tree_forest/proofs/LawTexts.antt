@@ -1,13 +1,13 @@
 -- Characters at a place: a text that is there grows, else a new one is put.
-use Rattle.std.proofs.Common.{◌≡◌, ℕ, zero, suc, if◌then◌else◌, inl, inr, List, [], ◌∷◌, ◌++◌, map, Option, None}
-use Rattle.std.proofs.Common.{Some, refl, sym, ap, ◌∙◌, subst, append-nil, append_assoc, add-zero, ◌<◌, arith}
+use Rattle.std.proofs.Common.{◌≡◌, if◌then◌else◌, [], ◌∷◌, ◌++◌, ◌∙◌, ◌<◌, List, None, Option, Some, add-zero, ap}
+use Rattle.std.proofs.Common.{append-nil, append_assoc, arith, inl, inr, map, refl, subst, suc, sym, zero, ℕ}
 use Rattle.tree_forest.specs.Changes.{changed, made, saying, saying_kind}
 use Rattle.tree_forest.specs.Conditions.{IsPlace}
 use Rattle.tree_forest.specs.Forest.{Forest, Holds, Kind, Node, children_at, comment, doctype, document, element}
 use Rattle.tree_forest.specs.Forest.{instruction, is_in, kind_at, nodes, parent_from, parent_of, text, text_of}
 use Rattle.tree_forest.specs.Orders.{AreDistinct, IsForest, IsIn, of_child}
-use Rattle.tree_forest.specs.Places.{Place, before, behind, below, in_front, last_of, neighbour, one_before}
-use Rattle.tree_forest.specs.Places.{put_before, put_node, put_words, siblings_of}
+use Rattle.tree_forest.specs.Places.{Place, before, below, in_front, last_of, neighbour, one_before, put_before}
+use Rattle.tree_forest.specs.Places.{put_node, put_words, siblings_of, trailing}
 use Rattle.tree_forest.proofs.LawLists.{Standing, last_of_end, not_in_front, one_before_put, put_before_at, standing}
 use Rattle.tree_forest.proofs.LawNodes.{changed_other, only_parent, parent_is}
 use Rattle.tree_forest.proofs.LawPlaces.{put_below, put_in_front, put_kinds}
@@ -19,10 +19,10 @@ pub new_text : (place : Place) (c : ℕ) (cs : List ℕ) (f : Forest) → neighb
     → put_words place (c ∷ cs) f ≡ put_node place (nodes f) (made (text (c ∷ cs)) f)
 new_text place c cs f e = rw e
 
-pub new_text_behind : (place : Place) (c : ℕ) (cs : List ℕ) (n : ℕ) (f : Forest) → neighbour place f ≡ Some n
+pub new_text_after : (place : Place) (c : ℕ) (cs : List ℕ) (n : ℕ) (f : Forest) → neighbour place f ≡ Some n
     → text_of (kind_at n f) ≡ None
     → put_words place (c ∷ cs) f ≡ put_node place (nodes f) (made (text (c ∷ cs)) f)
-new_text_behind place c cs n f e k = rw (e, k)
+new_text_after place c cs n f e k = rw (e, k)
 
 pub text_more : (place : Place) (c : ℕ) (cs said : List ℕ) (n : ℕ) (f : Forest) → neighbour place f ≡ Some n
     → text_of (kind_at n f) ≡ Some said → put_words place (c ∷ cs) f ≡ changed n (saying (c ∷ cs)) f
@@ -36,7 +36,7 @@ words_found : (place : Place) (c : ℕ) (cs : List ℕ) (n m : ℕ) (f : Forest)
     → neighbour place f ≡ Some n → text_of (kind_at n f) ≡ said → Holds m f → ¬ (m ≡ n)
     → kind_at m (put_words place (c ∷ cs) f) ≡ kind_at m f
 words_found place c cs n m f None e k h off =
-    ap (kind_at m) (new_text_behind place c cs n f e k) ∙ fresh_kinds place (text (c ∷ cs)) m f h
+    ap (kind_at m) (new_text_after place c cs n f e k) ∙ fresh_kinds place (text (c ∷ cs)) m f h
 words_found place c cs n m f (Some said) e k h off = ap (kind_at m) (text_more place c cs said n f e k)
     ∙ ap (λ x. x.kind) (changed_other (saying (c ∷ cs)) n m f off)
 
@@ -104,9 +104,9 @@ same_neighbour cs (before s) n f forest is =
     ∙ kept (λ x. x.children) (saying cs) n is.0 f (λ x. refl) ∙ sym (siblings_are s is.0 f e))
 
 -- a new text is the node right before its place
-in_behind : (n c : ℕ) (front rest : List ℕ) → IsIn n (front ++ c ∷ n ∷ rest)
-in_behind n c [] rest = inr (inl refl)
-in_behind n c (m ∷ front) rest = inr (in_behind n c front rest)
+in_after : (n c : ℕ) (front rest : List ℕ) → IsIn n (front ++ c ∷ n ∷ rest)
+in_after n c [] rest = inr (inl refl)
+in_after n c (m ∷ front) rest = inr (in_after n c front rest)
 
 still_in : (s q : ℕ) (kind : Kind) (f : Forest)
     → IsIn s (children_at q (put_node (before s) (nodes f) (made kind f))) → IsIn s (children_at q f)
@@ -130,7 +130,7 @@ new_before s p kind f forest i stand =
     let g : Forest = put_node (before s) (nodes f) (made kind f) in
     let e : children_at p g ≡ stand.front ++ nodes f ∷ s ∷ stand.rest =
     new_children s p stand.front stand.rest kind f forest stand.whole in
-    let there : IsIn s (children_at p g) = subst (IsIn s) (sym e) (in_behind s (nodes f) stand.front stand.rest) in
+    let there : IsIn s (children_at p g) = subst (IsIn s) (sym e) (in_after s (nodes f) stand.front stand.rest) in
     let parent : parent_of s g ≡ Some p = only_parent s 0 p g there (λ q j.
     forest.single q p s (of_child q s (still_in s q kind f j)) (of_child p s i)) ∙ ap Some (add-zero p) in
     ap (one_before s) (siblings_are s p g parent ∙ e) ∙ one_before_put s (nodes f) stand.front stand.rest
@@ -153,17 +153,17 @@ changed_mapped ds s c n [] = refl
 changed_mapped ds s c zero (x ∷ f) = refl
 changed_mapped ds s c (suc n) (x ∷ f) = ap (λ g. in_front s c x ∷ g) (changed_mapped ds s c n f)
 
-changed_behind : (ds : List ℕ) (p c n : ℕ) (f : Forest)
-    → changed n (saying ds) (changed p (behind c) f) ≡ changed p (behind c) (changed n (saying ds) f)
-changed_behind ds p c n [] = refl
-changed_behind ds zero c zero (x ∷ f) = refl
-changed_behind ds zero c (suc n) (x ∷ f) = refl
-changed_behind ds (suc p) c zero (x ∷ f) = refl
-changed_behind ds (suc p) c (suc n) (x ∷ f) = ap (λ g. x ∷ g) (changed_behind ds p c n f)
+changed_after : (ds : List ℕ) (p c n : ℕ) (f : Forest)
+    → changed n (saying ds) (changed p (trailing c) f) ≡ changed p (trailing c) (changed n (saying ds) f)
+changed_after ds p c n [] = refl
+changed_after ds zero c zero (x ∷ f) = refl
+changed_after ds zero c (suc n) (x ∷ f) = refl
+changed_after ds (suc p) c zero (x ∷ f) = refl
+changed_after ds (suc p) c (suc n) (x ∷ f) = ap (λ g. x ∷ g) (changed_after ds p c n f)
 
 changed_put : (ds : List ℕ) (place : Place) (c n : ℕ) (f : Forest)
     → changed n (saying ds) (put_node place c f) ≡ put_node place c (changed n (saying ds) f)
-changed_put ds (below p) c n f = changed_behind ds p c n f
+changed_put ds (below p) c n f = changed_after ds p c n f
 changed_put ds (before s) c n f = changed_mapped ds s c n f
 
 changed_made : (cs ds : List ℕ) (f : Forest)
@@ -185,9 +185,9 @@ new_twice place cs d ds f forest is =
 on_found : (place : Place) (c : ℕ) (cs : List ℕ) (d : ℕ) (ds : List ℕ) (n : ℕ) (f : Forest) (said : Option (List ℕ))
     → IsForest f → IsPlace place f → neighbour place f ≡ Some n → text_of (kind_at n f) ≡ said
     → put_words place (c ∷ (cs ++ d ∷ ds)) f ≡ put_words place (d ∷ ds) (put_words place (c ∷ cs) f)
-on_found place c cs d ds n f None forest is e k = new_text_behind place c (cs ++ d ∷ ds) n f e k
+on_found place c cs d ds n f None forest is e k = new_text_after place c (cs ++ d ∷ ds) n f e k
     ∙ new_twice place (c ∷ cs) d ds f forest is
-    ∙ ap (put_words place (d ∷ ds)) (sym (new_text_behind place c cs n f e k))
+    ∙ ap (put_words place (d ∷ ds)) (sym (new_text_after place c cs n f e k))
 on_found place c cs d ds n f (Some said) forest is e k = text_more place c (cs ++ d ∷ ds) said n f e k
     ∙ sym (changed_twice (c ∷ cs) (d ∷ ds) n f)
     ∙ sym (text_more place d ds (said ++ c ∷ cs) n (changed n (saying (c ∷ cs)) f)

@@ -1,6 +1,6 @@
 -- Nodes that are made leave a forest: one that stands alone, a template with its contents, and one that is put at once.
-use Rattle.std.proofs.Common.{◌≡◌, ℕ, suc, ◌+◌, ◌≤◌, ◌⊎◌, inl, inr, refl, sym, ap, subst, ◌∙◌, Bool, true, false}
-use Rattle.std.proofs.Common.{List, [], ◌∷◌, Option, None, Some, arith}
+use Rattle.std.proofs.Common.{◌≡◌, ◌+◌, ◌≤◌, ◌⊎◌, ◌∙◌, [], ◌∷◌, Bool, List, None, Option, Some, ap, arith, false, inl}
+use Rattle.std.proofs.Common.{inr, refl, subst, suc, sym, true, ℕ}
 use Rattle.html_lexemes.specs.declared.names.Attribute.{Attribute}
 use Rattle.html_lexemes.specs.declared.names.QualName.{QualName}
 use Rattle.tree_forest.specs.Changes.{made, made_element}
@@ -13,8 +13,8 @@ use Rattle.tree_forest.specs.Places.{Child, Place, before, below, neighbour, nod
 use Rattle.tree_forest.specs.Places.{with_doctype, words}
 use Rattle.tree_forest.proofs.KeptForests.{IsGrown, grown}
 use Rattle.tree_forest.proofs.MovedNodes.{put_node_kept, said_kept}
-use Rattle.tree_forest.proofs.Nodes.{children_made, contents_made, contents_made_at, holds_parent, kind_made}
-use Rattle.tree_forest.proofs.Nodes.{kind_new, same_some, size_made}
+use Rattle.tree_forest.proofs.Nodes.{children_made, contents_made, contents_made_at, holds_parent, kind_made, kind_new}
+use Rattle.tree_forest.proofs.Nodes.{same_some, size_made}
 use Rattle.tree_forest.proofs.Relations.{either, first_edge}
 
 larger : (n m : ℕ) → m ≡ suc n → n ≤ m

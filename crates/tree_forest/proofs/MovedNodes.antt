@@ -6,27 +6,27 @@ use Rattle.tree_forest.specs.Conditions.{CanMove, IsPlace}
 use Rattle.tree_forest.specs.Forest.{Forest, children_at, contents_of, document, element_of, kind_at, node_at}
 use Rattle.tree_forest.specs.Orders.{AreDistinct, AtOrAbove, HasNoParent, IsDocument, IsForest, IsIn, IsParent}
 use Rattle.tree_forest.specs.Orders.{of_child, of_contents}
-use Rattle.tree_forest.specs.Places.{Place, before, behind, below, in_front, put_node}
+use Rattle.tree_forest.specs.Places.{Place, before, trailing, below, in_front, put_node}
 use Rattle.tree_forest.proofs.KeptForests.{IsMoved, moved, none_added, one_added}
 use Rattle.tree_forest.proofs.Nodes.{attributed, changed_has, contents_said, contents_with, document_said}
 use Rattle.tree_forest.proofs.Nodes.{document_with, mapped_at, size_changed, size_mapped}
-use Rattle.tree_forest.proofs.Numbers.{distinct_append, distinct_left_out, distinct_one, distinct_put_before}
-use Rattle.tree_forest.proofs.Numbers.{in_append, in_left_out, in_one, in_put_before}
+use Rattle.tree_forest.proofs.Numbers.{distinct_append, distinct_left_out, distinct_one, distinct_put_before, in_append}
+use Rattle.tree_forest.proofs.Numbers.{in_left_out, in_one, in_put_before}
 use Rattle.tree_forest.proofs.Relations.{at_or_above_in, either, with_edge}
 
 -- below a node
 pub below_moved : (p n : ℕ) (f : Forest) → IsForest f → HasNoParent n f →
-    IsMoved f (changed p (behind n) f) p (λ b. b ≡ n)
+    IsMoved f (changed p (trailing n) f) p (λ b. b ≡ n)
 below_moved p n f forest free = record {
-  size = size_changed p (behind n) f;
-  contents = λ a. changed_has (λ x. (element_of x.kind).contents ≡ contents_of a f) a p (behind n) f refl (λ _. refl);
-  documents = λ a. changed_has (λ x. x.kind ≡ document → IsDocument a f) a p (behind n) f (λ is. is) (λ _ is. is);
-  kept = λ a is. changed_has (λ x. x.kind ≡ document) a p (behind n) f is (λ _. is);
+  size = size_changed p (trailing n) f;
+  contents = λ a. changed_has (λ x. (element_of x.kind).contents ≡ contents_of a f) a p (trailing n) f refl (λ _. refl);
+  documents = λ a. changed_has (λ x. x.kind ≡ document → IsDocument a f) a p (trailing n) f (λ is. is) (λ _ is. is);
+  kept = λ a is. changed_has (λ x. x.kind ≡ document) a p (trailing n) f is (λ _. is);
   children = λ a b. changed_has
-      (λ x. IsIn b x.children → IsIn b (children_at a f) ⊎ ((a ≡ p) × (b ≡ n))) a p (behind n) f
+      (λ x. IsIn b x.children → IsIn b (children_at a f) ⊎ ((a ≡ p) × (b ≡ n))) a p (trailing n) f
       (λ i. inl i)
       (λ e i. either (λ old. inl old) (λ new. inr (e, in_one b n new)) (in_append b (children_at a f) (n ∷ []) i));
-  once = λ a. changed_has (λ x. AreDistinct x.children) a p (behind n) f (forest.once a)
+  once = λ a. changed_has (λ x. AreDistinct x.children) a p (trailing n) f (forest.once a)
       (λ e. distinct_append (children_at a f) (n ∷ []) (forest.once a) (distinct_one n)
       (λ c i is. free a (of_child a n (subst (λ x. IsIn x (children_at a f)) (in_one c n is) i))));
 }
@@ -34,8 +34,8 @@ below_moved p n f forest free = record {
 pub below_kept : (p n : ℕ) (f : Forest) → IsForest f → CanMove (below p) n f → IsForest (put_node (below p) n f)
 below_kept p n f forest can =
     let change = below_moved p n f forest can.free in
-    moved f (changed p (behind n) f) p (λ b. b ≡ n) forest change
-    (one_added f (changed p (behind n) f) p n change can.within can.free can.no_document can.apart)
+    moved f (changed p (trailing n) f) p (λ b. b ≡ n) forest change
+    (one_added f (changed p (trailing n) f) p n change can.within can.free can.no_document can.apart)
 
 -- before a node
 pub front_moved : (p s n : ℕ) (f : Forest) → IsForest f → IsIn s (children_at p f) → HasNoParent n f →

@@ -1,6 +1,6 @@
 -- What stands at a node after a change, and what a change of a kind keeps.
-use Rattle.std.proofs.Common.{◌≡◌, ℕ, zero, suc, ◌⊎◌, inl, inr, refl, sym, ap, subst, List, [], ◌∷◌, None, Some, map}
-use Rattle.std.proofs.Common.{arith}
+use Rattle.std.proofs.Common.{◌≡◌, ◌⊎◌, [], ◌∷◌, List, None, Some, ap, arith, inl, inr, map, refl, subst, suc, sym}
+use Rattle.std.proofs.Common.{zero, ℕ}
 use Rattle.html_lexemes.specs.declared.names.Attribute.{Attribute}
 use Rattle.tree_forest.specs.Changes.{changed, kind_with, made, saying_kind}
 use Rattle.tree_forest.specs.Forest.{Forest, Holds, Kind, Node, children_at, comment, contents_of, doctype, document}

@@ -1,6 +1,6 @@
 -- Which numbers are among others after a change of a list, and that they stay distinct.
-use Rattle.std.proofs.Common.{◌≡◌, ℕ, ◌⊎◌, inl, inr, refl, sym, ◌∙◌, Bool, true, false, List, [], ◌∷◌, ◌++◌, ◌==◌}
-use Rattle.std.proofs.Common.{if◌then◌else◌, eqb-true, eq-eqb}
+use Rattle.std.proofs.Common.{◌≡◌, ◌⊎◌, ◌∙◌, [], ◌∷◌, ◌++◌, ◌==◌, if◌then◌else◌, Bool, List, eq-eqb, eqb-true, false}
+use Rattle.std.proofs.Common.{inl, inr, refl, sym, true, ℕ}
 use Rattle.tree_forest.specs.Changes.{left_out}
 use Rattle.tree_forest.specs.Orders.{AreDistinct, IsIn}
 use Rattle.tree_forest.specs.Places.{put_before}

@@ -1,7 +1,6 @@
 -- The parent of a node is the one that has it as a child, and what happens at a child happens there alone.
-use Rattle.std.proofs.Common.{◌≡◌, ℕ, zero, suc, ◌+◌, if◌then◌else◌, Bool, true, false, ◌⊎◌, inl, inr, List, [], ◌∷◌}
-use Rattle.std.proofs.Common.{map}
-use Rattle.std.proofs.Common.{Option, None, Some, refl, sym, ap, ap₂, ◌∙◌, subst, add-zero, arith}
+use Rattle.std.proofs.Common.{◌≡◌, ◌+◌, if◌then◌else◌, ◌⊎◌, [], ◌∷◌, ◌∙◌, Bool, List, None, Option, Some, add-zero, ap}
+use Rattle.std.proofs.Common.{ap₂, arith, false, inl, inr, map, refl, subst, suc, sym, true, zero, ℕ}
 use Rattle.tree_forest.specs.Changes.{changed, detached, without_child}
 use Rattle.tree_forest.specs.Forest.{Forest, Node, children_at, is_in, node_at, parent_from, parent_of}
 use Rattle.tree_forest.specs.Orders.{IsForest, IsIn, of_child}

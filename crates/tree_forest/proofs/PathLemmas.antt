@@ -1,20 +1,20 @@
 -- What stands above what after a change: as before, or by the edges that the change has added.
-use Rattle.std.proofs.Common.{◌≡◌, ℕ, ◌+◌, ◌⊎◌, inl, inr, refl, sym, subst, ◌∙◌, Bool, true, false, List, [], ◌∷◌}
-use Rattle.std.proofs.Common.{Option, None, Some, arith}
+use Rattle.std.proofs.Common.{◌≡◌, ◌+◌, ◌⊎◌, ◌∙◌, [], ◌∷◌, Bool, List, None, Option, Some, arith, false, inl, inr, refl}
+use Rattle.std.proofs.Common.{subst, sym, true, ℕ}
 use Rattle.html_lexemes.specs.declared.names.Attribute.{Attribute}
 use Rattle.html_lexemes.specs.declared.names.QualName.{QualName}
 use Rattle.tree_forest.specs.Changes.{changed, detached, made, made_element, reparented, saying, with_attributes}
 use Rattle.tree_forest.specs.Conditions.{CanPut, IsAbovePlace, IsPlace}
-use Rattle.tree_forest.specs.Forest.{Forest, Holds, Kind, Node, children_at, document, element_of}
-use Rattle.tree_forest.specs.Forest.{kind_at, nodes, text, text_of}
+use Rattle.tree_forest.specs.Forest.{Forest, Holds, Kind, Node, children_at, document, element_of, kind_at, nodes, text}
+use Rattle.tree_forest.specs.Forest.{text_of}
 use Rattle.tree_forest.specs.Orders.{Above, AtOrAbove, IsForest, IsIn, IsParent, child, further, of_child, of_contents}
 use Rattle.tree_forest.specs.Places.{Place, before, below, neighbour, node, put_node, put_words}
 use Rattle.tree_forest.proofs.KeptForests.{edges_from}
-use Rattle.tree_forest.proofs.LawTexts.{new_text, new_text_behind, text_more}
+use Rattle.tree_forest.proofs.LawTexts.{new_text, new_text_after, text_more}
 use Rattle.tree_forest.proofs.MadeNodes.{edge_made, leaf_kept, leaf_put}
 use Rattle.tree_forest.proofs.MovedNodes.{below_moved, edge_before, front_moved}
-use Rattle.tree_forest.proofs.Nodes.{attributed, children_made, contents_made_at, contents_said}
-use Rattle.tree_forest.proofs.Nodes.{contents_with, holds_parent, kept}
+use Rattle.tree_forest.proofs.Nodes.{attributed, children_made, contents_made_at, contents_said, contents_with}
+use Rattle.tree_forest.proofs.Nodes.{holds_parent, kept}
 use Rattle.tree_forest.proofs.Relations.{IsThrough, above_in, either, first_edge, through}
 use Rattle.tree_forest.proofs.Reparenting.{child_after, contents_after}
 
@@ -131,7 +131,7 @@ found_by : (place : Place) (c : ℕ) (cs : List ℕ) (n : ℕ) (f : Forest) (sai
     neighbour place f ≡ Some n → text_of (kind_at n f) ≡ said →
     (put_words place (c ∷ cs) f ≡ put_node place (nodes f) (made (text (c ∷ cs)) f)) ⊎
     ((m : ℕ) × (put_words place (c ∷ cs) f ≡ changed m (saying (c ∷ cs)) f))
-found_by place c cs n f None e k = inl (new_text_behind place c cs n f e k)
+found_by place c cs n f None e k = inl (new_text_after place c cs n f e k)
 found_by place c cs n f (Some said) e k = inr (n, text_more place c cs said n f e k)
 
 words_by : (place : Place) (c : ℕ) (cs : List ℕ) (f : Forest) (found : Option ℕ) → neighbour place f ≡ found →

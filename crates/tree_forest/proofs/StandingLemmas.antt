@@ -1,13 +1,13 @@
 -- Which children there are after a change, how many nodes, and what a text says.
-use Rattle.std.proofs.Common.{◌≡◌, ℕ, ◌⊎◌, ◌↔◌, inl, inr, if◌then◌else◌, Bool, true, false, ◌==◌, List, [], ◌∷◌, ◌++◌}
-use Rattle.std.proofs.Common.{Some, refl, sym, ap, ◌∙◌, subst, append-nil, arith, eq-eqb, eqb-true}
+use Rattle.std.proofs.Common.{◌≡◌, ◌⊎◌, ◌↔◌, if◌then◌else◌, ◌==◌, [], ◌∷◌, ◌++◌, ◌∙◌, Bool, List, Some, ap, append-nil}
+use Rattle.std.proofs.Common.{arith, eq-eqb, eqb-true, false, inl, inr, refl, subst, sym, true, ℕ}
 use Rattle.tree_forest.specs.Changes.{changed, childless, detached, left_out, reparented, saying, saying_kind}
 use Rattle.tree_forest.specs.Changes.{with_more}
 use Rattle.tree_forest.specs.Conditions.{CanPut}
 use Rattle.tree_forest.specs.Forest.{Forest, Holds, children_at, kind_at, nodes, parent_of, text, text_of}
 use Rattle.tree_forest.specs.Orders.{IsForest, IsIn}
-use Rattle.tree_forest.specs.Places.{Place, before, behind, below, in_front, neighbour, node, parent_at, put_before}
-use Rattle.tree_forest.specs.Places.{put_node, put_words}
+use Rattle.tree_forest.specs.Places.{Place, before, below, in_front, neighbour, node, parent_at, put_before, put_node}
+use Rattle.tree_forest.specs.Places.{put_words, trailing}
 use Rattle.tree_forest.proofs.LawNodes.{changed_here, changed_other, parent_is}
 use Rattle.tree_forest.proofs.LawPlaces.{out_children, put_below, put_in_front}
 use Rattle.tree_forest.proofs.LawTexts.{text_more}
@@ -20,7 +20,7 @@ use Rattle.tree_forest.proofs.LawLists.{in_middle}
 
 -- how many nodes there are
 pub size_put : (place : Place) (n : ℕ) (f : Forest) → nodes (put_node place n f) ≡ nodes f
-size_put (below p) n f = size_changed p (behind n) f
+size_put (below p) n f = size_changed p (trailing n) f
 size_put (before s) n f = size_mapped (in_front s n) f
 
 -- numbers that stay in a list, and one that is put there
@@ -65,7 +65,7 @@ stays_out x n (m ∷ ms) off i =
 put_to : (place : Place) (n m q : ℕ) (f : Forest) → IsForest f → IsIn m (children_at q (put_node place n f))
     → IsIn m (children_at q f) ⊎ ((m ≡ n) × (parent_at place f ≡ Some q))
 put_to (below p) n m q f forest there = changed_has
-    (λ x. IsIn m x.children → IsIn m (children_at q f) ⊎ ((m ≡ n) × (Some p ≡ Some q))) q p (behind n) f
+    (λ x. IsIn m x.children → IsIn m (children_at q f) ⊎ ((m ≡ n) × (Some p ≡ Some q))) q p (trailing n) f
     (λ i. inl i)
     (λ e i. either (λ old. inl old) (λ new. inr (in_one m n new, ap Some (sym e)))
     (in_append m (children_at q f) (n ∷ []) i)) there
@@ -75,7 +75,7 @@ put_to (before s) n m q f forest i = either (λ old. inl old) (λ new. inr (new.
 put_stays : (place : Place) (n m q : ℕ) (f : Forest) → IsIn m (children_at q f)
     → IsIn m (children_at q (put_node place n f))
 put_stays (below p) n m q f i =
-    changed_has (λ x. IsIn m x.children) q p (behind n) f i (λ _. in_first m (children_at q f) (n ∷ []) i)
+    changed_has (λ x. IsIn m x.children) q p (trailing n) f i (λ _. in_first m (children_at q f) (n ∷ []) i)
 put_stays (before s) n m q f i =
     subst (IsIn m) (sym (put_in_front s n q f)) (stays_put m s n (children_at q f) i)
 

@@ -1,11 +1,11 @@
 -- Changes of nodes: a node is made, changed, taken out, or loses its children to another (WHATWG DOM, 4.2.3).
-use Rattle.std.specs.Prelude.{ℕ, ◌+◌, Bool, true, false, ◌||◌, List, [], ◌∷◌, ◌++◌, Option, None, Some, map, zero}
-use Rattle.std.specs.Prelude.{suc, ◌==◌, if◌then◌else◌}
+use Rattle.std.specs.Prelude.{◌+◌, ◌||◌, [], ◌∷◌, ◌++◌, ◌==◌, if◌then◌else◌, Bool, List, None, Option, Some, false, map}
+use Rattle.std.specs.Prelude.{suc, true, zero, ℕ}
 use Rattle.html_lexemes.specs.contracts.names.QualNamePartialEq.TheImpl as names
 use Rattle.html_lexemes.specs.declared.names.Attribute.{Attribute}
 use Rattle.html_lexemes.specs.declared.names.QualName.{QualName}
-use Rattle.tree_forest.specs.Forest.{Forest, Kind, Node, children_at, comment, doctype, document, element}
-use Rattle.tree_forest.specs.Forest.{instruction, nodes, text}
+use Rattle.tree_forest.specs.Forest.{Forest, Kind, Node, children_at, comment, doctype, document, element, instruction}
+use Rattle.tree_forest.specs.Forest.{nodes, text}
 
 abbrev pub changed : ℕ → (Node → Node) → Forest → Forest
 changed n g [] = []

@@ -1,6 +1,6 @@
 -- The nodes of a page, by their numbers (WHATWG DOM, 4.2 to 4.10): what each is, and its children in order.
-use Rattle.std.specs.Prelude.{ℕ, ◌<◌, Bool, true, false, List, [], ◌∷◌, Option, None, Some, length, zero, suc, ◌==◌}
-use Rattle.std.specs.Prelude.{if◌then◌else◌}
+use Rattle.std.specs.Prelude.{◌<◌, [], ◌∷◌, ◌==◌, if◌then◌else◌, Bool, List, None, Option, Some, false, length, suc}
+use Rattle.std.specs.Prelude.{true, zero, ℕ}
 use Rattle.html_lexemes.specs.declared.names.Attribute.{Attribute}
 use Rattle.html_lexemes.specs.declared.names.Namespace.TheVariants.{Other}
 use Rattle.html_lexemes.specs.declared.names.QualName.{QualName}

@@ -14,8 +14,8 @@ pub data Child : Type 0 where
   words : List ℕ → Child
 
 -- a child more, after the others or before one of them
-abbrev pub behind : ℕ → Node → Node
-behind c x = record { kind = x.kind; children = x.children ++ c ∷ [] }
+abbrev pub trailing : ℕ → Node → Node
+trailing c x = record { kind = x.kind; children = x.children ++ c ∷ [] }
 
 abbrev pub put_before : ℕ → ℕ → List ℕ → List ℕ
 put_before s c [] = []
@@ -25,7 +25,7 @@ abbrev pub in_front : ℕ → ℕ → Node → Node
 in_front s c x = record { kind = x.kind; children = put_before s c x.children }
 
 abbrev pub put_node : Place → ℕ → Forest → Forest
-put_node (below p) n f = changed p (behind n) f
+put_node (below p) n f = changed p (trailing n) f
 put_node (before s) n f = map (in_front s n) f
 
 -- the last of some nodes, and the one right before another

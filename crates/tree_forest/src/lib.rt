@@ -64,9 +64,20 @@ mod sink;
 mod standing;
 mod tree_laws;
 
-pub use keeping::{ a_page_alone_is_a_forest, attributes_keep_a_forest, making_keeps_a_forest, putting_keeps_a_forest, reparenting_keeps_a_forest, taking_out_keeps_a_forest, };
-pub use laws::{ a_node_stands_where_it_was_put, a_node_taken_out_stands_nowhere, alikeness_is_an_equivalence, attributes_are_added, texts_side_by_side_are_one, what_was_not_named_stays, };
+pub use keeping::{
+    a_page_alone_is_a_forest, attributes_keep_a_forest, making_keeps_a_forest,
+    putting_keeps_a_forest, reparenting_keeps_a_forest, taking_out_keeps_a_forest,
+};
+pub use laws::{
+    a_node_stands_where_it_was_put, a_node_taken_out_stands_nowhere, alikeness_is_an_equivalence,
+    attributes_are_added, texts_side_by_side_are_one, what_was_not_named_stays,
+};
 pub use paths::{elements_stay, what_stands_above_what};
 pub use sink::{ElementFlags, NodeOrText, QuirksMode, TreeSink};
-pub use standing::{ how_many_nodes_there_are, what_a_parent_alone_is_changed_by, what_a_text_says, what_was_made_may_be_put, where_children_stand, };
-pub use tree_laws::{a_tree_goes_one_step_on, a_walk_takes_three_steps_a_node, trees_stand_in_order};
+pub use standing::{
+    how_many_nodes_there_are, what_a_parent_alone_is_changed_by, what_a_text_says,
+    what_was_made_may_be_put, where_children_stand,
+};
+pub use tree_laws::{
+    a_tree_goes_one_step_on, a_walk_takes_three_steps_a_node, trees_stand_in_order,
+};

@@ -25,7 +25,7 @@ fn templates_of_rows()
 fn moves_of_rows()
     ensures taken_out { children_at 0 (detached 1 two) ≡ 2 ∷ [] }
     ensures kept { children_at 0 (detached 0 two) ≡ 1 ∷ 2 ∷ [] }
-    ensures put_behind { children_at 0 (put_node (below 0) 1 (detached 1 two)) ≡ 2 ∷ 1 ∷ [] }
+    ensures put_after { children_at 0 (put_node (below 0) 1 (detached 1 two)) ≡ 2 ∷ 1 ∷ [] }
     ensures put_before { children_at 0 (put_node (before 1) 2 (detached 2 two)) ≡ 2 ∷ 1 ∷ [] }
     ensures put_deeper { children_at 2 (put_node (below 2) 1 (detached 1 two)) ≡ 1 ∷ [] }
     ensures all_children { children_at 3 (reparented 0 3 (alone two)) ≡ 1 ∷ 2 ∷ [] }

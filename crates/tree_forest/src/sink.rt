@@ -2,8 +2,8 @@ ghost use Rattle.std.specs.Prelude.{◌≡◌, ℕ, Option, Some, IfErr, IfOk, O
 ghost use Rattle.html_lexemes.specs.declared.fault.ParseFault.TheVariants.{Memory};
 ghost use Rattle.tree_forest.specs.Changes.{detached, made, made_element, reparented, with_attributes};
 ghost use Rattle.tree_forest.specs.Conditions.{CanPut, CanReparent};
-ghost use Rattle.tree_forest.specs.Forest.{Forest, IsElement, comment, contents_of, instruction};
-ghost use Rattle.tree_forest.specs.Forest.{is_integration_point, name_of, nodes};
+ghost use Rattle.tree_forest.specs.Forest.{Forest, IsElement, comment, contents_of, instruction, is_integration_point};
+ghost use Rattle.tree_forest.specs.Forest.{name_of, nodes};
 ghost use Rattle.tree_forest.specs.Places.{based_on, before, below, put, with_doctype};
 ghost use Rattle.tree_forest.specs.Sinks.{SinkView, child_of};
 ghost use Rattle.tree_forest.specs.declared.sink.QuirksMode.{QuirksMode as Quirks};

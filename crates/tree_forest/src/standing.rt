@@ -59,7 +59,7 @@ pub fn what_a_text_says()
         kind_at n (put place (words cs) f) ≡ text (said ++ cs) }
     ensures alone { (place : Place) (c : ℕ) (cs : List ℕ) (f : Forest) → neighbour place f ≡ None →
         put place (words (c ∷ cs)) f ≡ put_node place (nodes f) (made (text (c ∷ cs)) f) }
-    ensures behind_another { (place : Place) (n c : ℕ) (cs : List ℕ) (f : Forest) → neighbour place f ≡ Some n →
+    ensures after_another { (place : Place) (n c : ℕ) (cs : List ℕ) (f : Forest) → neighbour place f ≡ Some n →
         text_of (kind_at n f) ≡ None →
         put place (words (c ∷ cs)) f ≡ put_node place (nodes f) (made (text (c ∷ cs)) f) }
 {}

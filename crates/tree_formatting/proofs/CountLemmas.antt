@@ -1,8 +1,7 @@
 -- Counts of the tags of entries, as entries come and go.
-use Rattle.std.proofs.Common.{◌≡◌, ℕ, ◌+◌, ◌≤◌, ◌==◌, Bool, false, true, cond, List, [], ◌∷◌, ◌++◌, count_by}
-use Rattle.std.proofs.Common.{◌<◌, length, refl, sym, ap, subst, ◌∙◌, arith, zero, suc}
-use Rattle.std.proofs.Common.{slice_index_or, slice_set, take, drop}
-use Rattle.std.proofs.Common.{Err, None, Ok, Option, Result, Some}
+use Rattle.std.proofs.Common.{◌≡◌, ◌+◌, ◌≤◌, ◌==◌, [], ◌∷◌, ◌++◌, ◌<◌, ◌∙◌, Bool, Err, List, None, Ok, Option, Result}
+use Rattle.std.proofs.Common.{Some, ap, arith, cond, count_by, drop, false, length, refl, slice_index_or, slice_set}
+use Rattle.std.proofs.Common.{subst, suc, sym, take, true, zero, ℕ}
 use Rattle.std.specs.Prelude.{IfOk}
 use Rattle.std.specs.List.{insert, remove}
 use Rattle.std.proofs.lemmas.Bool.{cond-true, cond-false, eq-eqb}
@@ -13,8 +12,8 @@ use Rattle.html_lexemes.specs.declared.token.Tag.{Tag}
 use Rattle.tree_formatting.specs.Alike.{are_alike, count_alike, is_alike}
 use Rattle.tree_formatting.specs.Counted.{Covers, IsCounted, tags_of}
 use Rattle.tree_formatting.specs.declared.counted.TagCounts.{TagCounts}
-use Rattle.tree_formatting.specs.Entries.{Entry, before_marker, entries_of, formatted, is_named, last_named}
-use Rattle.tree_formatting.specs.Entries.{marker, up_to_marker}
+use Rattle.tree_formatting.specs.Entries.{Entry, before_marker, entries_of, formatted, is_named, last_named, marker}
+use Rattle.tree_formatting.specs.Entries.{up_to_marker}
 use Rattle.tree_formatting.specs.Prints.{name_print, tag_print}
 use Rattle.tree_formatting.specs.declared.entry.FormatEntry.{FormatEntry}
 use Rattle.tree_formatting.specs.declared.entry.FormatEntry.TheVariants.{Element, Marker}
@@ -162,12 +161,12 @@ named_none number name (Element h t ∷ xs) none =
     (named_none number name xs (omega (arith, none, more)))
 
 -- alike after the last marker are at most those that are alike
-alike_behind : (tag : Tag) (es : List Entry) → count_alike tag (up_to_marker es) ≤ count_alike tag es
-alike_behind tag [] = omega arith
-alike_behind tag (marker ∷ es) = omega arith
-alike_behind tag (formatted n held ∷ es) = omega (
+alike_after : (tag : Tag) (es : List Entry) → count_alike tag (up_to_marker es) ≤ count_alike tag es
+alike_after tag [] = omega arith
+alike_after tag (marker ∷ es) = omega arith
+alike_after tag (formatted n held ∷ es) = omega (
   arith,
-  alike_behind tag es,
+  alike_after tag es,
   count-cons (is_alike tag) (formatted n held) (up_to_marker es),
   count-cons (is_alike tag) (formatted n held) es,
 )
@@ -191,7 +190,7 @@ pub alike_within : {H : Type 0} (number : H → ℕ) (tag : Tag) (xs : List (For
     count_by (λ held. are_alike held tag) (tags_of xs) ≤ most →
     count_alike tag (up_to_marker (entries_of number xs)) ≤ most
 alike_within number tag xs most within =
-    omega (arith, within, alike_behind tag (entries_of number xs), alike_tags number tag xs)
+    omega (arith, within, alike_after tag (entries_of number xs), alike_tags number tag xs)
 
 pub at_most_in : (p : Tag → Bool) (print_of : Tag → ℕ) (print : ℕ) (tags : List Tag) (counts : ℕ → ℕ) →
     ((t : Tag) → p t ≡ true → print_of t ≡ print) → Covers print_of tags counts → (most : ℕ) → most ≡ counts print →

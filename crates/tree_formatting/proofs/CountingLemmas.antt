@@ -1,6 +1,6 @@
 -- The search for the earliest of the elements after the last marker that are alike.
-use Rattle.std.proofs.Common.{◌≡◌, ℕ, ◌+◌, ◌<◌, ◌≤◌, ◌==◌, false, true, cond, ◌&&◌, List, [], ◌∷◌, ◌++◌}
-use Rattle.std.proofs.Common.{length, refl, sym, ap, ap₂, ◌∙◌, arith}
+use Rattle.std.proofs.Common.{◌≡◌, ◌+◌, ◌<◌, ◌≤◌, ◌==◌, ◌&&◌, [], ◌∷◌, ◌++◌, ◌∙◌, List, ap, ap₂, arith, cond, false}
+use Rattle.std.proofs.Common.{length, refl, sym, true, ℕ}
 use Rattle.std.specs.List.{remove}
 use Rattle.std.proofs.lemmas.Bool.{and_from, and_right, cond-true, cond-false, eq-eqb, ne_eqb}
 use Rattle.std.proofs.lemmas.Bool.Decides.{nat_tests}
@@ -15,7 +15,7 @@ use Rattle.tree_formatting.specs.Pushing.{without_earliest}
 use Rattle.tree_formatting.specs.declared.entry.FormatEntry.{FormatEntry}
 use Rattle.tree_formatting.specs.declared.entry.FormatEntry.TheVariants.{Element}
 use Rattle.tree_formatting.proofs.EntryLemmas.{entries_of-push}
-use Rattle.tree_formatting.proofs.PlaceLemmas.{drop_behind}
+use Rattle.tree_formatting.proofs.PlaceLemmas.{drop_after}
 
 -- how many after the last marker are alike
 abbrev pub heads : Tag → List Entry → ℕ
@@ -60,7 +60,7 @@ module _ {H : Type 0} (tag : Tag) (whole rest before : List (FormatEntry H)) (al
   removed_last : remove rest (length before) ≡ before
   removed_last = ap (λ v. remove v (length before)) last
       ∙ ap₂ (λ a b. a ++ b) (take_at before (Element h held ∷ []) (length before) refl)
-      (drop_behind before [] (Element h held) (length before) refl)
+      (drop_after before [] (Element h held) (length before) refl)
       ∙ append-nil before
 
   -- it goes on to one that stands further from the end

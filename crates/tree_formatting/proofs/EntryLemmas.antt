@@ -1,14 +1,14 @@
 -- Entries at the end and within a list of them, and the latest of an element.
-use Rattle.std.proofs.Common.{◌≡◌, ℕ, ◌+◌, ◌-◌, ◌<◌, ◌≤◌, ◌==◌, Bool, false, true, cond, List, [], ◌∷◌, ◌++◌}
-use Rattle.std.proofs.Common.{Bor, None, Option, Some, option_map, slice_index_or, take}
+use Rattle.std.proofs.Common.{◌≡◌, ◌+◌, ◌-◌, ◌<◌, ◌≤◌, ◌==◌, [], ◌∷◌, ◌++◌, ◌∙◌, Bool, Bor, List, None, Option, Some}
+use Rattle.std.proofs.Common.{ap, arith, cond, false, length, map, option_map, refl, reverse, slice_index_or, sym, take}
+use Rattle.std.proofs.Common.{true, ℕ}
 use Rattle.std.specs.Option.{option_copied}
-use Rattle.std.proofs.Common.{length, map, reverse, refl, sym, ap, ◌∙◌, arith}
 use Rattle.std.proofs.lemmas.Bool.{cond-true, cond-false}
 use Rattle.std.proofs.lemmas.List.{append_assoc, map-append, reverse-append, take_more}
 use Rattle.html_lexemes.specs.declared.token.Tag.{Tag}
 use Rattle.tree_formatting.specs.Entries.{Entry, entries_of, entry_of, formatted, given_to, handed_over, is_listed}
-use Rattle.tree_formatting.specs.Entries.{is_named, is_of, last_named, marker}
-use Rattle.tree_formatting.specs.Entries.{put_behind, tag_if, tag_in, up_to_marker, without_entry}
+use Rattle.tree_formatting.specs.Entries.{is_named, is_of, last_named, marker, put_after, tag_if, tag_in, up_to_marker}
+use Rattle.tree_formatting.specs.Entries.{without_entry}
 use Rattle.tree_formatting.specs.Found.{IsAtMarker}
 use Rattle.tree_formatting.specs.declared.entry.FormatEntry.{FormatEntry}
 use Rattle.tree_formatting.specs.declared.entry.FormatEntry.TheVariants.{Element, Marker}
@@ -68,11 +68,11 @@ handed_over_at n m [] e ys none is = cond-true (is_of n e) _ _ is
 handed_over_at n m (x ∷ xs) e ys none is = let p = neither (is_of n x) (is_listed n xs) none in
     cond-false (is_of n x) _ _ p.0 ∙ ap (λ v. x ∷ v) (handed_over_at n m xs e ys p.1 is)
 
-pub put_behind_at : (n : ℕ) (new : Entry) (xs : List Entry) (e : Entry) (ys : List Entry) →
-    is_listed n xs ≡ false → is_of n e ≡ true → put_behind n new (xs ++ e ∷ ys) ≡ xs ++ new ∷ e ∷ ys
-put_behind_at n new [] e ys none is = cond-true (is_of n e) _ _ is
-put_behind_at n new (x ∷ xs) e ys none is = let p = neither (is_of n x) (is_listed n xs) none in
-    cond-false (is_of n x) _ _ p.0 ∙ ap (λ v. x ∷ v) (put_behind_at n new xs e ys p.1 is)
+pub put_after_at : (n : ℕ) (new : Entry) (xs : List Entry) (e : Entry) (ys : List Entry) →
+    is_listed n xs ≡ false → is_of n e ≡ true → put_after n new (xs ++ e ∷ ys) ≡ xs ++ new ∷ e ∷ ys
+put_after_at n new [] e ys none is = cond-true (is_of n e) _ _ is
+put_after_at n new (x ∷ xs) e ys none is = let p = neither (is_of n x) (is_listed n xs) none in
+    cond-false (is_of n x) _ _ p.0 ∙ ap (λ v. x ∷ v) (put_after_at n new xs e ys p.1 is)
 
 -- an element that isn't listed
 pub tag_in_none : (n : ℕ) (xs : List Entry) → is_listed n xs ≡ false → tag_in n xs ≡ None
@@ -90,11 +90,11 @@ handed_over_none n m [] none = refl
 handed_over_none n m (x ∷ xs) none = let p = neither (is_of n x) (is_listed n xs) none in
     cond-false (is_of n x) _ _ p.0 ∙ ap (λ v. x ∷ v) (handed_over_none n m xs p.1)
 
-pub put_behind_none : (n : ℕ) (new : Entry) (xs : List Entry) → is_listed n xs ≡ false →
-    put_behind n new xs ≡ xs ++ new ∷ []
-put_behind_none n new [] none = refl
-put_behind_none n new (x ∷ xs) none = let p = neither (is_of n x) (is_listed n xs) none in
-    cond-false (is_of n x) _ _ p.0 ∙ ap (λ v. x ∷ v) (put_behind_none n new xs p.1)
+pub put_after_none : (n : ℕ) (new : Entry) (xs : List Entry) → is_listed n xs ≡ false →
+    put_after n new xs ≡ xs ++ new ∷ []
+put_after_none n new [] none = refl
+put_after_none n new (x ∷ xs) none = let p = neither (is_of n x) (is_listed n xs) none in
+    cond-false (is_of n x) _ _ p.0 ∙ ap (λ v. x ∷ v) (put_after_none n new xs p.1)
 
 -- at the last marker, or at the end
 pub at_end : {H : Type 0} (xs : List (FormatEntry H)) → length xs ≡ 0 → IsAtMarker xs
@@ -106,15 +106,15 @@ at_marker xs before e = λ number. ap (λ v. up_to_marker (entries_of number v))
     ∙ ap up_to_marker (entries_of-push number before Marker)
 
 -- the latest element of a name
-last_named_behind : (name : List ℕ) (es : List Entry) → last_named name es ≡ last_named name (up_to_marker es)
-last_named_behind name [] = refl
-last_named_behind name (marker ∷ es) = refl
-last_named_behind name (formatted n tag ∷ es) =
-    ap (λ v. cond (is_named name tag) (Some n) v) (last_named_behind name es)
+last_named_after : (name : List ℕ) (es : List Entry) → last_named name es ≡ last_named name (up_to_marker es)
+last_named_after name [] = refl
+last_named_after name (marker ∷ es) = refl
+last_named_after name (formatted n tag ∷ es) =
+    ap (λ v. cond (is_named name tag) (Some n) v) (last_named_after name es)
 
 pub named_nowhere : {H : Type 0} (number : H → ℕ) (name : List ℕ) (xs : List (FormatEntry H)) → IsAtMarker xs →
     last_named name (entries_of number xs) ≡ None
-named_nowhere number name xs end = last_named_behind name (entries_of number xs) ∙ ap (last_named name) (end number)
+named_nowhere number name xs end = last_named_after name (entries_of number xs) ∙ ap (last_named name) (end number)
 
 module _ {H : Type 0} (number : H → ℕ) (name : List ℕ) (xs before : List (FormatEntry H)) (h : H) (tag : Tag)
     (last : xs ≡ before ++ Element h tag ∷ []) where
@@ -135,23 +135,23 @@ without_at_marker m (marker ∷ es) e = refl
 without_at_marker m (formatted n tag ∷ es) e = cc
 
 module _ {H : Type 0} (number : H → ℕ) (n m : ℕ) (xs : List (FormatEntry H)) (end : IsAtMarker xs) where
-  pub none_behind_marker : is_listed n (up_to_marker (entries_of number xs)) ≡ false
-  none_behind_marker = ap (is_listed n) (end number)
+  pub none_after_marker : is_listed n (up_to_marker (entries_of number xs)) ≡ false
+  none_after_marker = ap (is_listed n) (end number)
 
-  pub none_behind_without : is_listed n (up_to_marker (without_entry m (entries_of number xs))) ≡ false
-  none_behind_without = ap (is_listed n) (without_at_marker m (entries_of number xs) (end number))
+  pub none_after_without : is_listed n (up_to_marker (without_entry m (entries_of number xs))) ≡ false
+  none_after_without = ap (is_listed n) (without_at_marker m (entries_of number xs) (end number))
 
 module _ {H : Type 0} (number : H → ℕ) (n m : ℕ) (xs before : List (FormatEntry H)) (h : H) (tag : Tag)
     (last : xs ≡ before ++ Element h tag ∷ []) where
   shown_last : entries_of number xs ≡ formatted (number h) tag ∷ entries_of number before
   shown_last = ap (entries_of number) last ∙ entries_of-push number before (Element h tag)
 
-  pub behind_marker_here : (number h == n) ≡ true → is_listed n (up_to_marker (entries_of number xs)) ≡ true
-  behind_marker_here is = ap (λ v. is_listed n (up_to_marker v)) shown_last ∙ cond-true (number h == n) _ _ is
+  pub after_marker_here : (number h == n) ≡ true → is_listed n (up_to_marker (entries_of number xs)) ≡ true
+  after_marker_here is = ap (λ v. is_listed n (up_to_marker v)) shown_last ∙ cond-true (number h == n) _ _ is
 
-  pub behind_marker_before : (number h == n) ≡ false →
+  pub after_marker_before : (number h == n) ≡ false →
       is_listed n (up_to_marker (entries_of number xs)) ≡ is_listed n (up_to_marker (entries_of number before))
-  behind_marker_before isnt =
+  after_marker_before isnt =
       ap (λ v. is_listed n (up_to_marker v)) shown_last ∙ cond-false (number h == n) _ _ isnt
 
   pub without_it : (number h == m) ≡ true →

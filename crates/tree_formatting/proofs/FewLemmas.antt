@@ -1,13 +1,13 @@
 -- At most three elements that are alike stand after the last marker, whatever is done.
-use Rattle.std.proofs.Common.{◌≡◌, ℕ, ◌+◌, ◌<◌, ◌≤◌, ◌==◌, Bool, false, true, cond, ◌&&◌, List, [], ◌∷◌, ◌++◌, ◌⊎◌}
-use Rattle.std.proofs.Common.{Some, refl, sym, ap, subst, inl, inr, ◌∙◌, arith}
+use Rattle.std.proofs.Common.{◌≡◌, ◌+◌, ◌<◌, ◌≤◌, ◌==◌, ◌&&◌, [], ◌∷◌, ◌++◌, ◌⊎◌, ◌∙◌, Bool, List, Some, ap, arith}
+use Rattle.std.proofs.Common.{cond, false, inl, inr, refl, subst, sym, true, ℕ}
 use Rattle.std.specs.Bool.{nat_lt}
 use Rattle.std.proofs.lemmas.Bool.{and_cases, and_parts, cases_Bool, cond-true, cond-false, cond_both, eqb-false}
 use Rattle.std.proofs.lemmas.Bool.Decides.{nat_tests}
 use Rattle.html_lexemes.specs.declared.token.Tag.{Tag}
 use Rattle.tree_formatting.specs.Alike.{AreFew, are_alike}
-use Rattle.tree_formatting.specs.Entries.{Entry, before_marker, formatted, handed_over, is_listed, marker}
-use Rattle.tree_formatting.specs.Entries.{moved_behind, put_behind, tag_in, up_to_marker, without_entry}
+use Rattle.tree_formatting.specs.Entries.{Entry, before_marker, formatted, handed_over, is_listed, marker, moved_after}
+use Rattle.tree_formatting.specs.Entries.{put_after, tag_in, up_to_marker, without_entry}
 use Rattle.tree_formatting.specs.Pushing.{pushed, without_earliest}
 use Rattle.tree_formatting.proofs.AlikeLemmas.{alike_to_both}
 use Rattle.tree_formatting.proofs.CountingLemmas.{heads, heads-cons}
@@ -22,8 +22,8 @@ few_formatted : (n : ℕ) (held : Tag) (es : List Entry) → AreFew es →
 few_formatted n held es few room = ((λ t. omega (arith, heads-cons t n held es, room t)), few)
 
 -- what stands after an element has as many that are alike, or fewer
-heads_behind : (t : Tag) (n : ℕ) (held : Tag) (es : List Entry) → heads t es ≤ heads t (formatted n held ∷ es)
-heads_behind t n held es = omega (arith, heads-cons t n held es)
+heads_after : (t : Tag) (n : ℕ) (held : Tag) (es : List Entry) → heads t es ≤ heads t (formatted n held ∷ es)
+heads_after t n held es = omega (arith, heads-cons t n held es)
 
 -- the earliest of some goes
 module _ (tag : Tag) where
@@ -35,7 +35,7 @@ module _ (tag : Tag) where
   fewer t (marker ∷ es) = omega arith
   fewer t (formatted n held ∷ es) = cond_both (goes held es) es (formatted n held ∷ without_earliest tag es)
       (λ v. heads t v ≤ heads t (formatted n held ∷ es))
-      (λ e. heads_behind t n held es)
+      (λ e. heads_after t n held es)
       (λ e. omega (arith, heads-cons t n held es, heads-cons t n held (without_earliest tag es), fewer t es))
 
   one_fewer : (es : List Entry) → 0 < heads tag es → heads tag (without_earliest tag es) + 1 ≡ heads tag es
@@ -109,7 +109,7 @@ fewer_without n t [] = omega arith
 fewer_without n t (marker ∷ es) = omega arith
 fewer_without n t (formatted m held ∷ es) = cond_both (m == n) es (formatted m held ∷ without_entry n es)
     (λ v. heads t v ≤ heads t (formatted m held ∷ es))
-    (λ e. heads_behind t m held es)
+    (λ e. heads_after t m held es)
     (λ e. omega (arith, heads-cons t m held es, heads-cons t m held (without_entry n es), fewer_without n t es))
 
 pub few_without : (n : ℕ) (es : List Entry) → AreFew es → AreFew (without_entry n es)
@@ -197,44 +197,44 @@ taken n (formatted m held ∷ es) listed = elim (cases_Bool (m == n)) [
 
 module _ (after k : ℕ) (tag : Tag) where
   more_put : (t : Tag) (es : List Entry) → is_listed after (up_to_marker es) ≡ true →
-      heads t (put_behind after (formatted k tag) es) ≡ cond (are_alike tag t) 1 0 + heads t es
+      heads t (put_after after (formatted k tag) es) ≡ cond (are_alike tag t) 1 0 + heads t es
   more_put t [] listed = cc
   more_put t (marker ∷ es) listed = cc
   more_put t (formatted m held ∷ es) listed = elim (cases_Bool (m == after)) [
     | inl e ↦ ap (heads t) (cond-true (m == after) (formatted k tag ∷ formatted m held ∷ es)
-        (formatted m held ∷ put_behind after (formatted k tag) es) e)
+        (formatted m held ∷ put_after after (formatted k tag) es) e)
         ∙ heads-cons t k tag (formatted m held ∷ es)
     | inr e ↦
         let rest = more_put t es (sym (cond-false (m == after) true (is_listed after (up_to_marker es)) e) ∙ listed) in
         omega (
           arith,
           heads-cons t m held es,
-          heads-cons t m held (put_behind after (formatted k tag) es),
+          heads-cons t m held (put_after after (formatted k tag) es),
           rest,
           ap (heads t) (cond-false (m == after) (formatted k tag ∷ formatted m held ∷ es)
-              (formatted m held ∷ put_behind after (formatted k tag) es) e),
+              (formatted m held ∷ put_after after (formatted k tag) es) e),
         )
   ]
 
   few_put : (es : List Entry) → AreFew es → is_listed after (up_to_marker es) ≡ true →
-      ((t : Tag) → cond (are_alike tag t) 1 0 + heads t es ≤ 3) → AreFew (put_behind after (formatted k tag) es)
+      ((t : Tag) → cond (are_alike tag t) 1 0 + heads t es ≤ 3) → AreFew (put_after after (formatted k tag) es)
   few_put [] few listed room = cc
   few_put (marker ∷ es) few listed room = cc
   few_put (formatted m held ∷ es) few listed room = elim (cases_Bool (m == after)) [
     | inl e ↦ subst AreFew (sym (cond-true (m == after) (formatted k tag ∷ formatted m held ∷ es)
-        (formatted m held ∷ put_behind after (formatted k tag) es) e))
+        (formatted m held ∷ put_after after (formatted k tag) es) e))
         (few_formatted k tag (formatted m held ∷ es) few room)
     | inr e ↦
         let there = sym (cond-false (m == after) true (is_listed after (up_to_marker es)) e) ∙ listed in
         subst AreFew (sym (cond-false (m == after) (formatted k tag ∷ formatted m held ∷ es)
-        (formatted m held ∷ put_behind after (formatted k tag) es) e))
-        (few_formatted m held (put_behind after (formatted k tag) es)
-        (few_put es few.1 there (λ t. omega (arith, room t, heads_behind t m held es)))
+        (formatted m held ∷ put_after after (formatted k tag) es) e))
+        (few_formatted m held (put_after after (formatted k tag) es)
+        (few_put es few.1 there (λ t. omega (arith, room t, heads_after t m held es)))
         (λ t. omega (arith, room t, heads-cons t m held es, more_put t es there)))
   ]
 
 pub few_moved : (n m after : ℕ) (es : List Entry) → AreFew es → is_listed n (up_to_marker es) ≡ true →
-    is_listed after (up_to_marker (without_entry n es)) ≡ true → AreFew (moved_behind n m after es)
+    is_listed after (up_to_marker (without_entry n es)) ≡ true → AreFew (moved_after n m after es)
 few_moved n m after es few listed there =
     let was = taken n es listed in
     subst AreFew (sym (moves (λ (k : ℕ). k) n es m after was.tag was.held))

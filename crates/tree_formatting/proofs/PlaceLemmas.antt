@@ -1,22 +1,21 @@
 -- What is done at the place of an element's latest entry.
-use Rattle.std.proofs.Common.{◌≡◌, ℕ, ◌+◌, ◌-◌, ◌<◌, ◌≤◌, false, true, List, [], ◌∷◌, ◌++◌, Option, None, Some}
-use Rattle.std.proofs.Common.{length, slice_index_or, slice_set, take, drop, refl, sym, ap, ap₂, subst, ◌∙◌, zero, suc}
-use Rattle.std.proofs.Common.{arith}
+use Rattle.std.proofs.Common.{◌≡◌, ◌+◌, ◌-◌, ◌<◌, ◌≤◌, [], ◌∷◌, ◌++◌, ◌∙◌, List, None, Option, Some, ap, ap₂, arith}
+use Rattle.std.proofs.Common.{drop, false, length, refl, slice_index_or, slice_set, subst, suc, sym, take, true, zero}
+use Rattle.std.proofs.Common.{ℕ}
 use Rattle.std.specs.List.{insert, remove}
 use Rattle.std.specs.Option.{is_some}
 use Rattle.std.specs.Prelude.{IfSome}
 use Rattle.std.proofs.lemmas.Bool.{eq-eqb, eqb-true}
 use Rattle.std.proofs.lemmas.List.{append_assoc, drop_all, get_or_at, length-append, set_at, take_at}
 use Rattle.html_lexemes.specs.declared.token.Tag.{Tag}
-use Rattle.tree_formatting.specs.Entries.{Entry, entries_of, entry_of, formatted, handed_over, is_listed, is_of}
-use Rattle.tree_formatting.specs.Entries.{given as given_entry, moved_behind, put_behind, tag_in, without_entry}
+use Rattle.tree_formatting.specs.Entries.{Entry, entries_of, entry_of, formatted, given as given_entry, handed_over}
+use Rattle.tree_formatting.specs.Entries.{is_listed, is_of, moved_after, put_after, tag_in, without_entry}
 use Rattle.tree_formatting.specs.Found.{StandsAt}
 use Rattle.tree_formatting.specs.declared.entry.FormatEntry.{FormatEntry}
 use Rattle.tree_formatting.specs.declared.entry.FormatEntry.TheVariants.{Element, Marker}
-use Rattle.tree_formatting.proofs.EntryLemmas.{entries_of-append, entries_of-around, entries_of-cons}
-use Rattle.tree_formatting.proofs.EntryLemmas.{entries_of-push, handed_over_at}
-use Rattle.tree_formatting.proofs.EntryLemmas.{is_listed-push, is_listed_at, put_behind_at}
-use Rattle.tree_formatting.proofs.EntryLemmas.{put_behind_none, tag_in_at, tag_in_none, without_entry_at}
+use Rattle.tree_formatting.proofs.EntryLemmas.{entries_of-append, entries_of-around, entries_of-cons, entries_of-push}
+use Rattle.tree_formatting.proofs.EntryLemmas.{handed_over_at, is_listed-push, is_listed_at, put_after_at}
+use Rattle.tree_formatting.proofs.EntryLemmas.{put_after_none, tag_in_at, tag_in_none, without_entry_at}
 
 pub split_at : {A : Type 0} (xs : List A) (k : ℕ) (d : A) → k < length xs →
     xs ≡ take k xs ++ slice_index_or xs k d ∷ drop (suc k) xs
@@ -35,22 +34,22 @@ drop_from [] k d h = absurd (omega arith)
 drop_from (x ∷ xs) zero d h = refl
 drop_from (x ∷ xs) (suc k) d h = drop_from xs k d (omega arith)
 
-pub drop_behind : {A : Type 0} (front rest : List A) (x : A) (i : ℕ) → length front ≡ i →
+pub drop_after : {A : Type 0} (front rest : List A) (x : A) (i : ℕ) → length front ≡ i →
     drop (suc i) (front ++ x ∷ rest) ≡ rest
-drop_behind [] rest x zero e = refl
-drop_behind [] rest x (suc i) e = absurd (omega (arith, e))
-drop_behind (y ∷ front) rest x zero e = absurd (omega (arith, e))
-drop_behind (y ∷ front) rest x (suc i) e = drop_behind front rest x i (omega (arith, e))
+drop_after [] rest x zero e = refl
+drop_after [] rest x (suc i) e = absurd (omega (arith, e))
+drop_after (y ∷ front) rest x zero e = absurd (omega (arith, e))
+drop_after (y ∷ front) rest x (suc i) e = drop_after front rest x i (omega (arith, e))
 
 module _ {H : Type 0} (number : H → ℕ) (n : ℕ) where
   -- the search from the end
-  pub none_behind_end : (xs : List (FormatEntry H)) → is_listed n (entries_of number (drop (length xs) xs)) ≡ false
-  none_behind_end xs = ap (λ v. is_listed n (entries_of number v)) (drop_all (length xs) xs (omega arith))
+  pub none_after_end : (xs : List (FormatEntry H)) → is_listed n (entries_of number (drop (length xs) xs)) ≡ false
+  none_after_end xs = ap (λ v. is_listed n (entries_of number v)) (drop_all (length xs) xs (omega arith))
 
-  none_behind_from : (xs : List (FormatEntry H)) (k : ℕ) (x : FormatEntry H) → k < length xs →
+  none_after_from : (xs : List (FormatEntry H)) (k : ℕ) (x : FormatEntry H) → k < length xs →
       x ≡ slice_index_or xs k x → is_of n (entry_of number x) ≡ false →
       is_listed n (entries_of number (drop (suc k) xs)) ≡ false → is_listed n (entries_of number (drop k xs)) ≡ false
-  none_behind_from xs k x within read isnt none = ap (λ v. is_listed n (entries_of number v))
+  none_after_from xs k x within read isnt none = ap (λ v. is_listed n (entries_of number v))
       (drop_from xs k x within ∙ ap (λ v. v ∷ drop (suc k) xs) (sym read))
       ∙ ap (is_listed n) (entries_of-cons number x (drop (suc k) xs))
       ∙ is_listed-push n (entries_of number (drop (suc k) xs)) (entry_of number x) none isnt
@@ -73,12 +72,12 @@ module _ {H : Type 0} (number : H → ℕ) (n : ℕ) where
   NoneFrom : List (FormatEntry H) → ℕ → Type 0
   NoneFrom xs m = is_listed n (entries_of number (drop m xs)) ≡ false
 
-  pub none_behind_more : (xs : List (FormatEntry H)) (m : ℕ) (x : FormatEntry H) → 0 < m → m ≤ length xs →
+  pub none_after_more : (xs : List (FormatEntry H)) (m : ℕ) (x : FormatEntry H) → 0 < m → m ≤ length xs →
       x ≡ slice_index_or xs (m - 1) x → is_of n (entry_of number x) ≡ false →
       is_listed n (entries_of number (drop m xs)) ≡ false →
       is_listed n (entries_of number (drop (m - 1) xs)) ≡ false
   unfolding NoneFrom
-  none_behind_more xs m x some within read isnt none = none_behind_from xs (m - 1) x (omega arith) read isnt
+  none_after_more xs m x some within read isnt none = none_after_from xs (m - 1) x (omega arith) read isnt
       (subst (NoneFrom xs) (let e : m ≡ suc (m - 1) = omega arith in e) none)
 
   pub stands_at : (xs : List (FormatEntry H)) (m : ℕ) (x : FormatEntry H) → 0 < m → m ≤ length xs →
@@ -113,7 +112,7 @@ module _ {H : Type 0} (number : H → ℕ) (n : ℕ) where
     removed_is : remove xs k ≡ at.front ++ at.back
     removed_is = ap (λ v. take k v ++ drop (suc k) v) at.split
         ∙ ap₂ (λ a b. a ++ b) (take_at at.front (Element at.held at.tag ∷ at.back) k at.counted)
-        (drop_behind at.front at.back (Element at.held at.tag) k at.counted)
+        (drop_after at.front at.back (Element at.held at.tag) k at.counted)
 
     pub removed : entries_of number (remove xs k) ≡ without_entry n (entries_of number xs)
     removed = ap (entries_of number) removed_is
@@ -130,7 +129,7 @@ module _ {H : Type 0} (number : H → ℕ) (n : ℕ) where
         ∙ ap (handed_over n (number to)) (sym whole)
 
     pub put : (to : H) (tag : Tag) → entries_of number (insert xs (k + 1) (Element to tag))
-        ≡ put_behind n (formatted (number to) tag) (entries_of number xs)
+        ≡ put_after n (formatted (number to) tag) (entries_of number xs)
     put to tag = ap₂ (λ v j. entries_of number (insert v j (Element to tag))) at.split
         (let e : k + 1 ≡ suc k = omega arith in e)
         ∙ ap (entries_of number) inserted
@@ -138,21 +137,21 @@ module _ {H : Type 0} (number : H → ℕ) (n : ℕ) where
         ∙ entries_of-around number (at.front ++ Element at.held at.tag ∷ []) (Element to tag) at.back
         ∙ ap (λ v. entries_of number at.back ++ formatted (number to) tag ∷ v)
         (entries_of-push number at.front (Element at.held at.tag))
-        ∙ sym (put_behind_at n (formatted (number to) tag) (entries_of number at.back) _ (entries_of number at.front)
+        ∙ sym (put_after_at n (formatted (number to) tag) (entries_of number at.back) _ (entries_of number at.front)
         at.last is)
-        ∙ ap (put_behind n (formatted (number to) tag)) (sym whole) where
-          take_behind : (front rest : List (FormatEntry H)) (x : FormatEntry H) (i : ℕ) → length front ≡ i →
+        ∙ ap (put_after n (formatted (number to) tag)) (sym whole) where
+          take_after : (front rest : List (FormatEntry H)) (x : FormatEntry H) (i : ℕ) → length front ≡ i →
               take (suc i) (front ++ x ∷ rest) ≡ front ++ x ∷ []
-          take_behind [] rest x zero e = refl
-          take_behind [] rest x (suc i) e = absurd (omega (arith, e))
-          take_behind (y ∷ front) rest x zero e = absurd (omega (arith, e))
-          take_behind (y ∷ front) rest x (suc i) e = ap (λ v. y ∷ v) (take_behind front rest x i (omega (arith, e)))
+          take_after [] rest x zero e = refl
+          take_after [] rest x (suc i) e = absurd (omega (arith, e))
+          take_after (y ∷ front) rest x zero e = absurd (omega (arith, e))
+          take_after (y ∷ front) rest x (suc i) e = ap (λ v. y ∷ v) (take_after front rest x i (omega (arith, e)))
 
           inserted : insert (at.front ++ Element at.held at.tag ∷ at.back) (suc k) (Element to tag)
               ≡ at.front ++ Element at.held at.tag ∷ Element to tag ∷ at.back
           inserted = ap₂ (λ a b. a ++ Element to tag ∷ b)
-              (take_behind at.front at.back (Element at.held at.tag) k at.counted)
-              (drop_behind at.front at.back (Element at.held at.tag) k at.counted)
+              (take_after at.front at.back (Element at.held at.tag) k at.counted)
+              (drop_after at.front at.back (Element at.held at.tag) k at.counted)
               ∙ append_assoc at.front (Element at.held at.tag ∷ []) (Element to tag ∷ at.back)
 
   pub is_found : (xs : List (FormatEntry H)) (o : Option ℕ) → IfSome o (StandsAt number n xs) →
@@ -161,19 +160,19 @@ module _ {H : Type 0} (number : H → ℕ) (n : ℕ) where
   is_found xs (Some k) found missing = sym (listed xs k found)
 
   -- it is moved after another
-  pub stays : (es : List Entry) (m after : ℕ) → is_listed n es ≡ false → es ≡ moved_behind n m after es
+  pub stays : (es : List Entry) (m after : ℕ) → is_listed n es ≡ false → es ≡ moved_after n m after es
   stays es m after none = rw (tag_in_none n es none) refl
 
   pub moves : (es : List Entry) (m after : ℕ) (tag : Tag) → tag_in n es ≡ Some tag →
-      moved_behind n m after es ≡ put_behind after (formatted m tag) (without_entry n es)
+      moved_after n m after es ≡ put_after after (formatted m tag) (without_entry n es)
   moves es m after tag is = rw is refl
 
 -- where the other isn't listed
 pub put_first : {H : Type 0} (number : H → ℕ) (n : ℕ) (xs : List (FormatEntry H)) (to : H) (tag : Tag) →
     is_listed n (entries_of number xs) ≡ false →
-    entries_of number (insert xs 0 (Element to tag)) ≡ put_behind n (formatted (number to) tag) (entries_of number xs)
+    entries_of number (insert xs 0 (Element to tag)) ≡ put_after n (formatted (number to) tag) (entries_of number xs)
 put_first number n xs to tag none = entries_of-cons number (Element to tag) xs
-    ∙ sym (put_behind_none n (formatted (number to) tag) (entries_of number xs) none)
+    ∙ sym (put_after_none n (formatted (number to) tag) (entries_of number xs) none)
 
 pub stands_in : {H : Type 0} (number : H → ℕ) (n : ℕ) (xs ys : List (FormatEntry H)) (k : ℕ) → xs ≡ ys →
     StandsAt number n xs k → StandsAt number n ys k
@@ -201,11 +200,11 @@ given_at number n xs items k at view x h tag value is to =
 pub moved : {H : Type 0} (number : H → ℕ) (n : ℕ) (xs items : List (FormatEntry H)) (k : ℕ)
     (at : StandsAt number n xs k) → items ≡ xs → (x : FormatEntry H) (h : H) (tag : Tag) →
     x ≡ slice_index_or items k x → x ≡ Element h tag → (ys : List (FormatEntry H)) → ys ≡ remove items k →
-    (m after : ℕ) (new : List Entry) → new ≡ put_behind after (formatted m tag) (entries_of number ys) →
-    new ≡ moved_behind n m after (entries_of number xs)
+    (m after : ℕ) (new : List Entry) → new ≡ put_after after (formatted m tag) (entries_of number ys) →
+    new ≡ moved_after n m after (entries_of number xs)
 moved number n xs items k at view x h tag value is ys rest m after new put_is = put_is
-    ∙ ap (λ v. put_behind after (formatted m tag) (entries_of number v)) (rest ∙ ap (λ v. remove v k) view)
-    ∙ ap₂ (λ v t. put_behind after (formatted m t) v) (removed number n xs k at)
+    ∙ ap (λ v. put_after after (formatted m tag) (entries_of number v)) (rest ∙ ap (λ v. remove v k) view)
+    ∙ ap₂ (λ v t. put_after after (formatted m t) v) (removed number n xs k at)
     (sym (tag_at number n xs items k at view x h tag value is))
     ∙ sym (moves number n (entries_of number xs) m after at.tag (tag_is number n xs k at))
 

@@ -1,6 +1,6 @@
 -- Prints: of a text that is read on, of attributes in any order, and of tags that are alike.
-use Rattle.std.proofs.Common.{◌≡◌, ℕ, ◌+◌, ◌^◌, ◌%◌, true, List, [], ◌∷◌, ◌++◌, length, take, fold, sym, ap, ap₂, ◌∙◌}
-use Rattle.std.proofs.Common.{◌<◌, arith}
+use Rattle.std.proofs.Common.{◌≡◌, ◌+◌, ◌^◌, ◌%◌, [], ◌∷◌, ◌++◌, ◌∙◌, ◌<◌, List, ap, ap₂, arith, fold, length, sym}
+use Rattle.std.proofs.Common.{take, true, ℕ}
 use Rattle.std.proofs.Math.ListN.{get_or}
 use Rattle.std.proofs.lemmas.List.{length_push, take_all, take_more}
 use Rattle.std.proofs.lemmas.List.Sums.{fold-append}

@@ -1,6 +1,6 @@
 -- The iterator's next entry, and its end.
-use Rattle.std.proofs.Common.{◌≡◌, ℕ, List, [], ◌∷◌, ◌++◌, Bor, None, Some, length, map, reverse}
-use Rattle.std.proofs.Common.{refl, sym, ap, subst, ◌∙◌}
+use Rattle.std.proofs.Common.{◌≡◌, [], ◌∷◌, ◌++◌, ◌∙◌, Bor, List, None, Some, ap, length, map, refl, reverse, subst}
+use Rattle.std.proofs.Common.{sym, ℕ}
 use Rattle.std.proofs.lemmas.List.{length-reverse, map-append, reverse-append}
 use Rattle.html_lexemes.specs.declared.token.Tag.{Tag}
 use Rattle.tree_formatting.specs.Entries.{entry_of, up_to_marker}

@@ -1,7 +1,7 @@
 -- The list of active formatting elements (WHATWG HTML, 13.2.4.3), the latest entry first: markers, and elements by the
 -- numbers of their nodes with the start tags that they were made for.
-use Rattle.std.specs.Prelude.{ℕ, Bool, false, true, List, [], ◌∷◌, ◌==◌, if◌then◌else◌, Option, None, Some, map}
-use Rattle.std.specs.Prelude.{bytes_eq, reverse}
+use Rattle.std.specs.Prelude.{[], ◌∷◌, ◌==◌, if◌then◌else◌, Bool, List, None, Option, Some, bytes_eq, false, map}
+use Rattle.std.specs.Prelude.{reverse, true, ℕ}
 use Rattle.html_lexemes.specs.declared.token.Tag.{Tag}
 use Rattle.tree_formatting.specs.declared.entry.FormatEntry.{FormatEntry}
 use Rattle.tree_formatting.specs.declared.entry.FormatEntry.TheVariants.{Element, Marker}
@@ -76,14 +76,14 @@ handed_over n m [] = []
 handed_over n m (entry ∷ rest) = if is_of n entry then given_to m entry ∷ rest else entry ∷ handed_over n m rest
 
 -- an entry is put right after an element's, that is, later in the list; where it isn't listed, before all others
-abbrev pub put_behind : ℕ → Entry → List Entry → List Entry
-put_behind n new [] = new ∷ []
-put_behind n new (entry ∷ rest) = if is_of n entry then new ∷ entry ∷ rest else entry ∷ put_behind n new rest
+abbrev pub put_after : ℕ → Entry → List Entry → List Entry
+put_after n new [] = new ∷ []
+put_after n new (entry ∷ rest) = if is_of n entry then new ∷ entry ∷ rest else entry ∷ put_after n new rest
 
 -- An element's entry goes right after that of another, and to an element that has taken its place. An element that
 -- isn't listed changes nothing.
-abbrev pub moved_behind : ℕ → ℕ → ℕ → List Entry → List Entry
-moved_behind n m after entries = move (tag_in n entries) where
+abbrev pub moved_after : ℕ → ℕ → ℕ → List Entry → List Entry
+moved_after n m after entries = move (tag_in n entries) where
   move : Option Tag → List Entry
   move None = entries
-  move (Some tag) = put_behind after (formatted m tag) (without_entry n entries)
+  move (Some tag) = put_after after (formatted m tag) (without_entry n entries)

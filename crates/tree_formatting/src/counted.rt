@@ -1,6 +1,6 @@
 //! How many entries have a name, and how many were made for a tag: with that most searches need no walk.
-ghost use Rattle.std.specs.Prelude.{◌≡◌, ℕ, ◌+◌, ◌-◌, ◌≤◌, List, [], ◌∷◌, ◌++◌, IfOk, OnErr, OnOk, cond};
-ghost use Rattle.std.specs.Prelude.{count_by, nat_eq};
+ghost use Rattle.std.specs.Prelude.{◌≡◌, ◌+◌, ◌-◌, ◌≤◌, [], ◌∷◌, ◌++◌, IfOk, List, OnErr, OnOk, cond, count_by, nat_eq};
+ghost use Rattle.std.specs.Prelude.{ℕ};
 ghost use Rattle.std.specs.HashMap.{IsUnchanged};
 ghost use Rattle.html_lexemes.specs.declared.token.Tag.{Tag as SeenTag};
 ghost use Rattle.tree_formatting.specs.Alike.{are_alike};

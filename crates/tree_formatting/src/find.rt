@@ -1,14 +1,14 @@
 //! Where entries stand, looked for from the end: what is asked for mostly stands there.
 ghost use Rattle.std.specs.Prelude.{◌≡◌, ℕ, ◌≤◌, [], ◌∷◌, ◌++◌, IfSome, None, false, option_map};
 ghost use Rattle.tree_formatting.specs.Alike.{are_alike, count_alike};
-ghost use Rattle.tree_formatting.specs.Entries.{entries_of, entry_of, is_listed, is_of, last_named};
-ghost use Rattle.tree_formatting.specs.Entries.{up_to_marker, without_entry};
+ghost use Rattle.tree_formatting.specs.Entries.{entries_of, entry_of, is_listed, is_of, last_named, up_to_marker};
+ghost use Rattle.tree_formatting.specs.Entries.{without_entry};
 ghost use Rattle.tree_formatting.specs.Found.{HasRoom, IsAtMarker, IsEarliest, StandsAt};
 ghost use Rattle.tree_formatting.specs.declared.entry.FormatEntry.TheVariants.{Element};
 
 use crate::entry::FormatEntry;
-use tree_forest::TreeSink;
 use html_lexemes::{LocalName, Tag};
+use tree_forest::TreeSink;
 
 /// How many elements after the last marker may be alike ("Noah's Ark clause").
 const MOST_ALIKE: usize = 3;
@@ -79,7 +79,7 @@ pub(crate) fn last_of_name<'a, H: Copy>(
 }
 
 // whether an element stands after the last marker
-fn is_behind_marker<H: Copy, S: TreeSink<Handle = H>>(
+fn is_after_marker<H: Copy, S: TreeSink<Handle = H>>(
     entries: &[FormatEntry<H>],
     sink: &S,
     target: H,
@@ -97,7 +97,7 @@ fn is_behind_marker<H: Copy, S: TreeSink<Handle = H>>(
 }
 
 /// Whether an element stands after the last marker, once the latest entry of another is taken off.
-pub(crate) fn is_behind_marker_without<H: Copy, S: TreeSink<Handle = H>>(
+pub(crate) fn is_after_marker_without<H: Copy, S: TreeSink<Handle = H>>(
     entries: &[FormatEntry<H>],
     sink: &S,
     target: H,
@@ -109,7 +109,7 @@ pub(crate) fn is_behind_marker_without<H: Copy, S: TreeSink<Handle = H>>(
     let mut rest = entries;
     'back: while let Some((handle, _, before)) = last_element(rest) {
         if sink.same_node(*handle, without) {
-            return is_behind_marker(before, sink, target);
+            return is_after_marker(before, sink, target);
         }
         if sink.same_node(*handle, target) {
             return true;

@@ -4,7 +4,7 @@ ghost use Rattle.html_lexemes.specs.Tags.{IsEquivalent};
 ghost use Rattle.html_lexemes.specs.declared.token.Tag.{Tag as SeenTag};
 ghost use Rattle.tree_formatting.specs.Alike.{AreFew, are_alike};
 ghost use Rattle.tree_formatting.specs.Entries.{Entry, before_marker, formatted, handed_over, is_listed, marker};
-ghost use Rattle.tree_formatting.specs.Entries.{moved_behind, up_to_marker, without_entry};
+ghost use Rattle.tree_formatting.specs.Entries.{moved_after, up_to_marker, without_entry};
 ghost use Rattle.tree_formatting.specs.Pushing.{pushed};
 
 /// Tags are alike exactly where they are the same but for the order of their attributes.
@@ -22,7 +22,7 @@ pub fn at_most_three_are_alike()
     ensures moved { (n m after : ℕ) (entries : List Entry) → AreFew entries →
         is_listed n (up_to_marker entries) ≡ true →
         is_listed after (up_to_marker (without_entry n entries)) ≡ true →
-        AreFew (moved_behind n m after entries) }
+        AreFew (moved_after n m after entries) }
     ensures given { (n m : ℕ) (tag : SeenTag) (front back : List Entry) →
         AreFew (front ++ formatted n tag ∷ back) → AreFew (front ++ formatted m tag ∷ back) }
 {}

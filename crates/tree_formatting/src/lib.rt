@@ -10,8 +10,8 @@
 //!   are alike the earliest gone; what stands before the last marker
 //! - `last_named`, `contains`, `tag_of`: the latest element of a name after the last marker; whether an element is
 //!   listed, and its tag
-//! - `stands_behind_marker`: whether an element is listed after the last marker, once another's entry is taken off
-//! - `remove`, `hand_over`, `move_behind`, `give`: an entry is taken off; another element takes it over; it goes
+//! - `stands_after_marker`: whether an element is listed after the last marker, once another's entry is taken off
+//! - `remove`, `hand_over`, `move_after`, `give`: an entry is taken off; another element takes it over; it goes
 //!   right after another's; the entry of a place goes to another element
 //! - `iter_to_marker`, `ActiveFormattingIter::next`: each entry after the last marker, the latest first, with its
 //!   place and tag, then `None` for good

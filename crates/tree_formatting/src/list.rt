@@ -1,19 +1,19 @@
 ghost use Rattle.std.specs.Prelude.{◌≡◌, ℕ, ◌<◌, List, [], ◌∷◌, ◌++◌, OnErr, OnOk, length, option_map};
 ghost use Rattle.tree_formatting.specs.Entries.{before_marker, entries_of, given, handed_over, is_listed, last_named};
-ghost use Rattle.tree_formatting.specs.Entries.{marker, moved_behind, tag_in, up_to_marker, without_entry};
+ghost use Rattle.tree_formatting.specs.Entries.{marker, moved_after, tag_in, up_to_marker, without_entry};
 ghost use Rattle.tree_formatting.specs.Pushing.{pushed};
 ghost use Rattle.tree_formatting.specs.Steps.{all_of, left_of};
 ghost use Rattle.tree_formatting.specs.declared.entry.FormatEntry.{FormatEntry};
 
 use crate::counted::TagCounts;
 use crate::entry::FormatEntry;
-use crate::find::{earliest_of_three, is_behind_marker_without, last_of_name, position};
+use crate::find::{earliest_of_three, is_after_marker_without, last_of_name, position};
 use crate::iter::ActiveFormattingIter;
 use crate::taken::{take_off, take_off_to_marker};
-use tree_forest::TreeSink;
 use html_lexemes::{LocalName, Tag};
 use std::alloc::{AllocError, Global};
 use std::marker::Model;
+use tree_forest::TreeSink;
 
 /// The list of active formatting elements (WHATWG HTML, 13.2.4.3). Contracts see its entries, the earliest first, and
 /// speak of them by the numbers of their elements, the latest first (`entries_of`).
@@ -106,7 +106,7 @@ impl<H: Copy> FormattingList<H> {
     }
 
     /// Whether an element is listed after the last marker, once another is not listed any more.
-    pub fn stands_behind_marker<S: TreeSink<Handle = H>>(
+    pub fn stands_after_marker<S: TreeSink<Handle = H>>(
         &self,
         sink: &S,
         target: H,
@@ -115,7 +115,7 @@ impl<H: Copy> FormattingList<H> {
         ensures { result ≡ is_listed (S.view.number target) (up_to_marker (without_entry (S.view.number without)
             (entries_of S.view.number self.now))) }
     {
-        is_behind_marker_without(self.entries.as_slice(), sink, target, without)
+        is_after_marker_without(self.entries.as_slice(), sink, target, without)
     }
 
     /// The start tag that an element that is listed was made for.
@@ -165,14 +165,14 @@ impl<H: Copy> FormattingList<H> {
     }
 
     /// Puts an element's entry right after that of another, and gives it to the element that has taken its place.
-    pub fn move_behind<S: TreeSink<Handle = H>>(
+    pub fn move_after<S: TreeSink<Handle = H>>(
         &mut self,
         sink: &S,
         target: H,
         to: H,
         after: H,
     ) -> Result<(), AllocError>
-        ensures ok { OnOk result (entries_of S.view.number self.new ≡ moved_behind (S.view.number target)
+        ensures ok { OnOk result (entries_of S.view.number self.new ≡ moved_after (S.view.number target)
             (S.view.number to) (S.view.number after) (entries_of S.view.number self.old)) }
         ensures err { OnErr result (self.new ≡ self.old) }
     {

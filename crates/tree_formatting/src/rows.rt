@@ -1,13 +1,13 @@
 //! The list computed on worked rows.
 ghost use Rattle.std.specs.Prelude.{◌≡◌, [], ◌∷◌, None, Some, codes, false, true};
 ghost use Rattle.tree_formatting.specs.Alike.{are_alike};
-ghost use Rattle.tree_formatting.specs.Entries.{before_marker, formatted, handed_over, last_named, marker};
-ghost use Rattle.tree_formatting.specs.Entries.{moved_behind, tag_in, up_to_marker, without_entry};
+ghost use Rattle.tree_formatting.specs.Entries.{before_marker, formatted, handed_over, last_named, marker, moved_after};
+ghost use Rattle.tree_formatting.specs.Entries.{tag_in, up_to_marker, without_entry};
 ghost use Rattle.tree_formatting.specs.Pushing.{pushed};
 ghost use Rattle.tree_formatting.specs.RowWords.{bold, font, font_changed, font_reordered, strong};
 
 fn markers_of_rows()
-    ensures behind { up_to_marker (strong 3 ∷ marker ∷ strong 2 ∷ marker ∷ strong 1 ∷ []) ≡ strong 3 ∷ [] }
+    ensures trailing { up_to_marker (strong 3 ∷ marker ∷ strong 2 ∷ marker ∷ strong 1 ∷ []) ≡ strong 3 ∷ [] }
     ensures all { up_to_marker (strong 2 ∷ strong 1 ∷ []) ≡ strong 2 ∷ strong 1 ∷ [] }
     ensures before { before_marker (strong 3 ∷ marker ∷ strong 2 ∷ marker ∷ strong 1 ∷ [])
         ≡ strong 2 ∷ marker ∷ strong 1 ∷ [] }
@@ -45,9 +45,9 @@ fn changes_of_rows()
         ≡ strong 3 ∷ strong 9 ∷ strong 1 ∷ [] }
     ensures taken_off { without_entry 2 (strong 3 ∷ strong 2 ∷ strong 1 ∷ []) ≡ strong 3 ∷ strong 1 ∷ [] }
     ensures kept { without_entry 4 (strong 2 ∷ marker ∷ strong 1 ∷ []) ≡ strong 2 ∷ marker ∷ strong 1 ∷ [] }
-    ensures moved { moved_behind 1 9 2 (strong 3 ∷ strong 2 ∷ formatted 1 font ∷ [])
+    ensures moved { moved_after 1 9 2 (strong 3 ∷ strong 2 ∷ formatted 1 font ∷ [])
         ≡ strong 3 ∷ formatted 9 font ∷ strong 2 ∷ [] }
-    ensures moved_first { moved_behind 2 9 4 (strong 3 ∷ formatted 2 font ∷ strong 1 ∷ [])
+    ensures moved_first { moved_after 2 9 4 (strong 3 ∷ formatted 2 font ∷ strong 1 ∷ [])
         ≡ strong 3 ∷ strong 1 ∷ formatted 9 font ∷ [] }
-    ensures not_moved { moved_behind 4 9 2 (strong 2 ∷ strong 1 ∷ []) ≡ strong 2 ∷ strong 1 ∷ [] }
+    ensures not_moved { moved_after 4 9 2 (strong 2 ∷ strong 1 ∷ []) ≡ strong 2 ∷ strong 1 ∷ [] }
 {}

@@ -7,8 +7,8 @@ use Rattle.tree_model.specs.Laws.{Laws}
 use Rattle.tree_model.specs.Scopes.{taken_off}
 use Rattle.tree_model.specs.Sound.{Sound}
 use Rattle.tree_model.proofs.ListedAfter.{listed_without}
-use Rattle.tree_model.proofs.NearerLemmas.{IsLeft, distinct_by, farther_left, left_out_left, never_above}
-use Rattle.tree_model.proofs.NearerLemmas.{not_twice, order_by}
+use Rattle.tree_model.proofs.NearerLemmas.{IsLeft, distinct_by, farther_left, left_out_left, never_above, not_twice}
+use Rattle.tree_model.proofs.NearerLemmas.{order_by}
 
 -- open elements are left out
 pub left_sound : (b : Building) (ns : List ℕ) → Sound b → IsLeft ns b.stack → Sound (record b { stack = ns })

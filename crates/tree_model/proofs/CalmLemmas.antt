@@ -1,6 +1,6 @@
 -- What was reconstructed is as it was where it is reconstructed again (WHATWG HTML, 13.2.4.3).
-use Rattle.std.proofs.Common.{◌≡◌, ℕ, Bool, true, false, if◌then◌else◌, refl, sym, ap, ap₂, ◌∙◌, List, [], ◌∷◌, ◌++◌}
-use Rattle.std.proofs.Common.{◌==◌}
+use Rattle.std.proofs.Common.{◌≡◌, if◌then◌else◌, ◌∙◌, [], ◌∷◌, ◌++◌, ◌==◌, Bool, List, ap, ap₂, false, refl, sym, true}
+use Rattle.std.proofs.Common.{ℕ}
 use Rattle.std.proofs.lemmas.Bool.{cond-true, eq-eqb}
 use Rattle.tree_formatting.specs.Entries.{Entry, formatted, marker}
 use Rattle.tree_forest.specs.Forest.{is_in, nodes}

@@ -18,8 +18,8 @@ use Rattle.tree_model.proofs.GrownLemmas.{IsApart, grown_sound, made_apart, no_d
 use Rattle.tree_model.proofs.GrownLemmas.{old_held, old_not_above, out_apart}
 use Rattle.tree_model.proofs.InsertedLemmas.{not_itself}
 use Rattle.tree_model.proofs.ListedAfter.{listed_handed, tag_listed}
-use Rattle.tree_model.proofs.NearerLemmas.{IsNearer, Was, farther_in, in_replaced, is_nearer, nearer_in}
-use Rattle.tree_model.proofs.NearerLemmas.{never_above, nearer_on, nearer_replaced, not_twice}
+use Rattle.tree_model.proofs.NearerLemmas.{IsNearer, Was, farther_in, in_replaced, is_nearer, nearer_in, nearer_on}
+use Rattle.tree_model.proofs.NearerLemmas.{nearer_replaced, never_above, not_twice}
 use Rattle.tree_model.proofs.SoundLemmas.{either}
 
 is_or_isnt : (a b : ℕ) → (a ≡ b) ⊎ ¬ (a ≡ b)

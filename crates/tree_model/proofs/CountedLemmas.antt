@@ -1,9 +1,9 @@
 -- Counts of open elements stay right.
-use Rattle.std.proofs.Common.{◌≡◌, ℕ, Bool, true, false, ◌==◌, inl, inr, refl, sym, ap, ap₂, ◌∙◌, if◌then◌else◌, ◌||◌}
-use Rattle.std.proofs.Common.{List, [], ◌∷◌, ◌++◌, length, map, bytes_eq, arith, ◌<◌, Option, None, Some}
+use Rattle.std.proofs.Common.{◌≡◌, ◌==◌, ◌∙◌, if◌then◌else◌, ◌||◌, [], ◌∷◌, ◌++◌, ◌<◌, ◌+◌, Bool, List, None, Option}
+use Rattle.std.proofs.Common.{Some, ap, ap₂, arith, bytes_eq, false, inl, inr, length, length-append, map, refl, sym}
+use Rattle.std.proofs.Common.{true, ℕ}
 use Rattle.std.proofs.lemmas.Bool.{eqb-true}
 use Rattle.std.proofs.lemmas.List.{length-map, length-reverse, map-append}
-use Rattle.std.proofs.Common.{◌+◌, length-append}
 use Rattle.std.proofs.lemmas.Slice.Eq.{bytes_eq-Decides}
 use Rattle.tree_forest.specs.Changes.{left_out}
 use Rattle.tree_forest.specs.Forest.{Forest, is_in, name_of}

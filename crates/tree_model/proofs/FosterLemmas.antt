@@ -1,10 +1,10 @@
 -- What stands at or above the place for inserting into the common ancestor: an element that is as far, or above one.
-use Rattle.std.proofs.Common.{◌≡◌, ℕ, Bool, true, false, ◌&&◌, ◌||◌, ◌⊎◌, inl, inr, refl, sym, ap, subst, ◌∙◌, List, []}
-use Rattle.std.proofs.Common.{◌∷◌, ◌++◌, Option, None, Some, codes, if◌then◌else◌}
+use Rattle.std.proofs.Common.{◌≡◌, ◌&&◌, ◌||◌, ◌⊎◌, ◌∙◌, [], ◌∷◌, ◌++◌, if◌then◌else◌, Bool, List, None, Option, Some}
+use Rattle.std.proofs.Common.{ap, codes, false, inl, inr, refl, subst, sym, true, ℕ}
 use Rattle.std.proofs.lemmas.Bool.{cond_both}
 use Rattle.tree_forest.specs.Conditions.{IsAbovePlace, is_from}
-use Rattle.tree_forest.specs.Forest.{Forest, IsElement, Kind, contents_of, document, element_of, kind_at}
-use Rattle.tree_forest.specs.Forest.{name_of, parent_of}
+use Rattle.tree_forest.specs.Forest.{Forest, IsElement, Kind, contents_of, document, element_of, kind_at, name_of}
+use Rattle.tree_forest.specs.Forest.{parent_of}
 use Rattle.tree_forest.specs.Orders.{Above, AtOrAbove, IsDocument, IsForest, IsIn, IsParent, child, further}
 use Rattle.tree_forest.specs.Orders.{of_contents}
 use Rattle.tree_forest.specs.Places.{Place, based_on, before, below}
@@ -13,8 +13,7 @@ use Rattle.tree_names.specs.Sets.{is_element_of, is_html}
 use Rattle.html_lexemes.specs.declared.names.QualName.{QualName}
 use Rattle.tree_model.specs.Building.{Building}
 use Rattle.tree_model.specs.CanAdopt.{is_foster_stop}
-use Rattle.tree_model.specs.Insertions.{foster_at, foster_place, holder, inside, is_fostered, is_template}
-use Rattle.tree_model.specs.Insertions.{place_for}
+use Rattle.tree_model.specs.Insertions.{foster_at, foster_place, holder, inside, is_fostered, is_template, place_for}
 use Rattle.tree_model.specs.OpenElements.{current_of, first_of}
 use Rattle.tree_model.proofs.GrownLemmas.{no_document, none_above}
 use Rattle.tree_model.proofs.PlaceLemmas.{first_in}

@@ -1,6 +1,5 @@
 -- A node that is made for a tag, and what keeps a tree sound in which it becomes an open element.
-use Rattle.std.proofs.Common.{◌≡◌, ℕ, ◌<◌, true, ◌⊎◌, inl, inr, sym, ap, subst, ◌∙◌, Some, arith}
-use Rattle.std.proofs.Common.{codes}
+use Rattle.std.proofs.Common.{◌≡◌, ◌<◌, ◌⊎◌, ◌∙◌, Some, ap, arith, codes, inl, inr, subst, sym, true, ℕ}
 use Rattle.tree_formatting.specs.Alike.{AreFew}
 use Rattle.tree_forest.specs.Changes.{contents_number, detached}
 use Rattle.tree_forest.specs.Forest.{Forest, Holds, IsElement, IsElementKind, Kind, contents_of, document, element}

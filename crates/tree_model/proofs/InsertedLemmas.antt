@@ -1,11 +1,11 @@
 -- What is inserted keeps a tree that is being built sound.
-use Rattle.std.proofs.Common.{◌≡◌, ℕ, ◌<◌, Bool, true, false, inl, inr, refl, sym, ap, subst, ◌∙◌, List}
-use Rattle.std.proofs.Common.{◌+◌, [], Option, None, Some, arith, codes}
+use Rattle.std.proofs.Common.{◌≡◌, ◌<◌, ◌∙◌, ◌+◌, [], Bool, List, None, Option, Some, ap, arith, codes, false, inl, inr}
+use Rattle.std.proofs.Common.{refl, subst, sym, true, ℕ}
 use Rattle.std.specs.Option.{unwrap_or}
 use Rattle.tree_forest.specs.Changes.{contents_number, made, made_element, with_attributes}
 use Rattle.tree_forest.specs.Conditions.{CanPut, IsPlace}
-use Rattle.tree_forest.specs.Forest.{Forest, Holds, IsElement, IsElementKind, Kind, comment, doctype, document}
-use Rattle.tree_forest.specs.Forest.{element, element_of, kind_at, nodes}
+use Rattle.tree_forest.specs.Forest.{Forest, Holds, IsElement, IsElementKind, Kind, comment, doctype, document, element}
+use Rattle.tree_forest.specs.Forest.{element_of, kind_at, nodes}
 use Rattle.tree_forest.specs.Orders.{Above, AtOrAbove, IsForest, IsIn, IsParent}
 use Rattle.tree_forest.specs.Places.{Place, below, node, put, put_node, with_doctype, words}
 use Rattle.tree_names.specs.Sets.{is_html}

@@ -1,6 +1,6 @@
 -- Reconstructing formatting elements and the adoption agency keep a sound tree sound, and its elements.
-use Rattle.std.proofs.Common.{◌≡◌, ℕ, ◌+◌, Bool, true, false, not, refl, sym, ap, subst, arith, zero}
-use Rattle.std.proofs.Common.{suc, if◌then◌else◌, List, [], ◌∷◌, ◌++◌, Option, None, Some, length}
+use Rattle.std.proofs.Common.{◌≡◌, ◌+◌, if◌then◌else◌, [], ◌∷◌, ◌++◌, Bool, List, None, Option, Some, ap, arith, false}
+use Rattle.std.proofs.Common.{length, not, refl, subst, suc, sym, true, zero, ℕ}
 use Rattle.std.proofs.lemmas.List.{length-append}
 use Rattle.std.specs.Bool.{nat_lt}
 use Rattle.tree_formatting.specs.Entries.{Entry, formatted, is_listed, last_named, marker, tag_in, up_to_marker}
@@ -8,13 +8,12 @@ use Rattle.tree_forest.specs.Changes.{detached, reparented}
 use Rattle.tree_forest.specs.Forest.{is_in, nodes}
 use Rattle.tree_forest.specs.Places.{below}
 use Rattle.html_lexemes.specs.declared.token.Tag.{Tag}
-use Rattle.tree_model.specs.Adoption.{Turn, Walk, adopted, adoption, after_turn, again, closed_by_other_end}
-use Rattle.tree_model.specs.Adoption.{farther, furthest_block, is_current_unlisted, nearer, other_end}
-use Rattle.tree_model.specs.Adoption.{out_of_place, over, placed, popped_with, stepped, taken_over, turn}
-use Rattle.tree_model.specs.Adoption.{turn_for, turn_with, turn_with_block, turns, walked}
+use Rattle.tree_model.specs.Adoption.{Turn, Walk, adopted, adoption, after_turn, again, closed_by_other_end, farther}
+use Rattle.tree_model.specs.Adoption.{furthest_block, is_current_unlisted, nearer, other_end, out_of_place, over}
+use Rattle.tree_model.specs.Adoption.{placed, popped_with, stepped, taken_over, turn, turn_for, turn_with}
+use Rattle.tree_model.specs.Adoption.{turn_with_block, turns, walked}
 use Rattle.tree_model.specs.Building.{Building}
-use Rattle.tree_model.specs.Formatting.{made_already, made_for, made_from, name_for, reconstructed}
-use Rattle.tree_model.specs.Formatting.{to_make, unlisted}
+use Rattle.tree_model.specs.Formatting.{made_already, made_for, made_from, name_for, reconstructed, to_make, unlisted}
 use Rattle.tree_model.specs.Insertions.{place_for}
 use Rattle.tree_model.specs.Laws.{Laws}
 use Rattle.tree_model.specs.OpenElements.{current_of, up_to}
@@ -42,7 +41,7 @@ record IsCutAt (entries : List Entry) (index left : ℕ) : Type 0 where
   earlier : List Entry
   cut : entries ≡ later ++ entry ∷ earlier
   before_it : length later ≡ left
-  behind_it : length earlier ≡ index
+  after_it : length earlier ≡ index
 
 cut_off : (entries : List Entry) (index left : ℕ) → length entries ≡ index + suc left → IsCutAt entries index left
 cut_off [] index left size = absurd (omega (arith, size))
@@ -52,7 +51,7 @@ cut_off (e ∷ es) index zero size = record {
   earlier = es;
   cut = refl;
   before_it = refl;
-  behind_it = omega (arith, size);
+  after_it = omega (arith, size);
 }
 cut_off (e ∷ es) index (suc left) size =
     let rest = cut_off es index left (omega (arith, size)) in
@@ -62,7 +61,7 @@ cut_off (e ∷ es) index (suc left) size =
       earlier = rest.earlier;
       cut = ap (λ (v : List Entry). e ∷ v) rest.cut;
       before_it = ap suc rest.before_it;
-      behind_it = rest.behind_it;
+      after_it = rest.after_it;
     }
 
 module _ (laws : Laws) where
@@ -71,19 +70,19 @@ module _ (laws : Laws) where
       b.formatting ≡ later ++ e ∷ earlier → length later ≡ left → length earlier ≡ index →
       ((c : Building) → Sound c → length c.formatting ≡ index + 1 + left → IsKept c (made_from (index + 1) c)) →
       IsKept b (made_from index b)
-  made_by left index b later earlier marker sound cut before_it behind_it more =
+  made_by left index b later earlier marker sound cut before_it after_it more =
       let size : length b.formatting ≡ index + 1 + left
-      = omega (arith, ap length cut, length-append later (marker ∷ earlier), before_it, behind_it) in
-      subst (IsKept b) (marker_from later earlier index b cut behind_it) (more b sound size)
-  made_by left index b later earlier (formatted n tag) sound cut before_it behind_it more =
+      = omega (arith, ap length cut, length-append later (marker ∷ earlier), before_it, after_it) in
+      subst (IsKept b) (marker_from later earlier index b cut after_it) (more b sound size)
+  made_by left index b later earlier (formatted n tag) sound cut before_it after_it more =
       let c : Building = renewed later tag earlier b in
       let step : IsKept b c = record {
         sound = renewed_sound laws later earlier n tag b cut sound;
         grown = inserted_for_grows laws tag b;
       } in
       let size : length c.formatting ≡ index + 1 + left
-      = omega (arith, length-append later (formatted (nodes b.forest) tag ∷ earlier), before_it, behind_it) in
-      subst (IsKept b) (renewed_from later earlier n tag index b cut behind_it)
+      = omega (arith, length-append later (formatted (nodes b.forest) tag ∷ earlier), before_it, after_it) in
+      subst (IsKept b) (renewed_from later earlier n tag index b cut after_it)
       (kept_on b c (made_from (index + 1) c) step (more c step.sound size))
 
   made_kept : (left index : ℕ) (b : Building) → Sound b → length b.formatting ≡ index + left →
@@ -92,7 +91,7 @@ module _ (laws : Laws) where
       (kept_itself b sound)
   made_kept (suc left) index b sound size =
       let at = cut_off b.formatting index left size in
-      made_by left index b at.later at.earlier at.entry sound at.cut at.before_it at.behind_it
+      made_by left index b at.later at.earlier at.entry sound at.cut at.before_it at.after_it
       (made_kept left (index + 1))
 
   pub reconstructed_kept : Keeps reconstructed

@@ -1,6 +1,6 @@
 -- What is popped, inserted or listed keeps a sound tree sound, and its elements.
-use Rattle.std.proofs.Common.{◌≡◌, ℕ, Bool, true, false, inl, inr, refl, if◌then◌else◌, List, [], ◌∷◌}
-use Rattle.std.proofs.Common.{Option, None, Some, codes, subst, sym}
+use Rattle.std.proofs.Common.{◌≡◌, if◌then◌else◌, [], ◌∷◌, Bool, List, None, Option, Some, codes, false, inl, inr, refl}
+use Rattle.std.proofs.Common.{subst, sym, true, ℕ}
 use Rattle.std.proofs.lemmas.Bool.{cond_both}
 use Rattle.tree_forest.specs.Forest.{Forest, Holds, comment, doctype, is_integration_point, name_of, nodes}
 use Rattle.tree_forest.specs.Conditions.{IsPlace}
@@ -14,8 +14,7 @@ use Rattle.tree_model.specs.Adoption.{closed_by_other_end, closed_with, named_be
 use Rattle.tree_model.specs.Building.{Building}
 use Rattle.tree_model.specs.Foreign.{broken_out, closed_by_foreign_end, from_html, named_foreign, popped_with_any}
 use Rattle.tree_model.specs.Formatting.{inserted_for, inserted_formatting, name_for}
-use Rattle.tree_model.specs.Insertions.{commented_at, here, inserted_at, root_of, said, with_doctype_of}
-use Rattle.tree_model.specs.Insertions.{with_element}
+use Rattle.tree_model.specs.Insertions.{commented_at, here, inserted_at, root_of, said, with_doctype_of, with_element}
 use Rattle.tree_model.specs.Laws.{Laws}
 use Rattle.tree_model.specs.OpenElements.{below_first, from_first}
 use Rattle.tree_model.specs.Scopes.{has_item, implied, is_in_scope, popped_down_to, popped_to, with_closed_item}
@@ -25,10 +24,9 @@ use Rattle.tree_model.specs.Words.{HasGrown, IsKept, Keeps}
 use Rattle.tree_model.proofs.AdoptionLemmas.{left_sound, popped_with_sound}
 use Rattle.tree_model.proofs.InsertedLemmas.{commented_sound, doctyped_sound, inserted_sound, said_sound}
 use Rattle.tree_model.proofs.InsertedLemmas.{with_element_sound}
-use Rattle.tree_model.proofs.KeptSizes.{element_grows, grown_itself, grown_on, put_grows, put_leaf_grows}
-use Rattle.tree_model.proofs.KeptSizes.{words_grow}
+use Rattle.tree_model.proofs.KeptSizes.{element_grows, grown_itself, grown_on, put_grows, put_leaf_grows, words_grow}
 use Rattle.tree_model.proofs.ListedLemmas.{inserted_formatting_sound}
-use Rattle.tree_model.proofs.NearerLemmas.{IsLeft, all_left, left_behind}
+use Rattle.tree_model.proofs.NearerLemmas.{IsLeft, all_left, left_after}
 use Rattle.tree_names.specs.ElementSets.{button_scope_barriers}
 use Rattle.tree_names.specs.Sets.{Elements, is_element_of, is_one_of}
 use Rattle.tree_names.specs.TagSets.{formatting}
@@ -63,20 +61,20 @@ kept_left b ns sound left = kept_nodes b _ refl (left_sound b ns sound left)
 implied_left : (except : Elements) (f : Forest) (ns : List ℕ) → IsLeft (without_implied except f ns) ns
 implied_left except f [] = all_left []
 implied_left except f (n ∷ ns) = cond_both (is_implied except (name_of n f)) (without_implied except f ns) (n ∷ ns)
-    (λ l. IsLeft l (n ∷ ns)) (λ e. left_behind n (without_implied except f ns) ns (implied_left except f ns))
+    (λ l. IsLeft l (n ∷ ns)) (λ e. left_after n (without_implied except f ns) ns (implied_left except f ns))
     (λ e. all_left (n ∷ ns))
 
 below_left : (set : Elements) (f : Forest) (ns : List ℕ) → IsLeft (below_first set f ns) ns
 below_left set f [] = all_left []
 below_left set f (n ∷ ns) = cond_both (is_element_of set (name_of n f)) ns (below_first set f ns)
-    (λ l. IsLeft l (n ∷ ns)) (λ e. left_behind n ns ns (all_left ns))
-    (λ e. left_behind n (below_first set f ns) ns (below_left set f ns))
+    (λ l. IsLeft l (n ∷ ns)) (λ e. left_after n ns ns (all_left ns))
+    (λ e. left_after n (below_first set f ns) ns (below_left set f ns))
 
 from_left : (set : Elements) (f : Forest) (ns : List ℕ) → IsLeft (from_first set f ns) ns
 from_left set f [] = all_left []
 from_left set f (n ∷ ns) = cond_both (is_element_of set (name_of n f)) (n ∷ ns) (from_first set f ns)
     (λ l. IsLeft l (n ∷ ns)) (λ e. all_left (n ∷ ns))
-    (λ e. left_behind n (from_first set f ns) ns (from_left set f ns))
+    (λ e. left_after n (from_first set f ns) ns (from_left set f ns))
 
 pub implied_kept : (except : Elements) → Keeps (implied except)
 implied_kept except b sound = kept_left b _ sound (implied_left except b.forest b.stack)
@@ -118,7 +116,7 @@ html_left : (f : Forest) (ns : List ℕ) → IsLeft (from_html f ns) ns
 html_left f [] = all_left []
 html_left f (n ∷ ns) = cond_both (stops_break_out (name_of n f) (is_integration_point n f)) (n ∷ ns) (from_html f ns)
     (λ l. IsLeft l (n ∷ ns)) (λ e. all_left (n ∷ ns))
-    (λ e. left_behind n (from_html f ns) ns (html_left f ns))
+    (λ e. left_after n (from_html f ns) ns (html_left f ns))
 
 pub broken_out_kept : Keeps broken_out
 broken_out_kept b sound = kept_left b _ sound (html_left b.forest b.stack)

@@ -1,10 +1,10 @@
 -- No change takes a node away, and an element stays one.
-use Rattle.std.proofs.Common.{◌≡◌, ℕ, ◌≤◌, Bool, true, false, arith, refl, sym, subst, List, [], ◌∷◌, Option, None}
-use Rattle.std.proofs.Common.{Some}
+use Rattle.std.proofs.Common.{◌≡◌, ◌≤◌, [], ◌∷◌, Bool, List, None, Option, Some, arith, false, refl, subst, sym, true}
+use Rattle.std.proofs.Common.{ℕ}
 use Rattle.tree_forest.specs.Changes.{contents_number, detached, made, made_element, saying, with_attributes}
 use Rattle.tree_forest.specs.Forest.{Forest, IsElementKind, Kind, document, element, kind_at, nodes, text, text_of}
 use Rattle.tree_forest.specs.Places.{Place, neighbour, put_node, put_words}
-use Rattle.tree_forest.proofs.LawTexts.{new_text, new_text_behind, text_more}
+use Rattle.tree_forest.proofs.LawTexts.{new_text, new_text_after, text_more}
 use Rattle.tree_forest.proofs.Nodes.{size_changed}
 use Rattle.html_lexemes.specs.declared.names.Attribute.{Attribute}
 use Rattle.html_lexemes.specs.declared.names.QualName.{QualName}
@@ -67,18 +67,18 @@ module _ (laws : Laws) where
       HasGrown f (put_node place (nodes f) (made kind f))
   put_leaf_grows place kind f = put_grows place (nodes f) f (made kind f) (leaf_grows kind f)
 
-  words_behind : (place : Place) (c : ℕ) (cs : List ℕ) (n : ℕ) (f : Forest) (said : Option (List ℕ)) →
+  words_after : (place : Place) (c : ℕ) (cs : List ℕ) (n : ℕ) (f : Forest) (said : Option (List ℕ)) →
       neighbour place f ≡ Some n → text_of (kind_at n f) ≡ said → nodes f ≤ nodes (put_words place (c ∷ cs) f)
-  words_behind place c cs n f None e k = subst (λ g. nodes f ≤ nodes g)
-      (sym (new_text_behind place c cs n f e k)) (put_leaf_grows place (text (c ∷ cs)) f).size
-  words_behind place c cs n f (Some said) e k = subst (λ g. nodes f ≤ nodes g)
+  words_after place c cs n f None e k = subst (λ g. nodes f ≤ nodes g)
+      (sym (new_text_after place c cs n f e k)) (put_leaf_grows place (text (c ∷ cs)) f).size
+  words_after place c cs n f (Some said) e k = subst (λ g. nodes f ≤ nodes g)
       (sym (text_more place c cs said n f e k)) (as_many f _ (size_changed n (saying (c ∷ cs)) f))
 
   words_by : (place : Place) (c : ℕ) (cs : List ℕ) (f : Forest) (found : Option ℕ) → neighbour place f ≡ found →
       nodes f ≤ nodes (put_words place (c ∷ cs) f)
   words_by place c cs f None e = subst (λ g. nodes f ≤ nodes g) (sym (new_text place c cs f e))
       (put_leaf_grows place (text (c ∷ cs)) f).size
-  words_by place c cs f (Some n) e = words_behind place c cs n f (text_of (kind_at n f)) e refl
+  words_by place c cs f (Some n) e = words_after place c cs n f (text_of (kind_at n f)) e refl
 
   words_size : (place : Place) (cs : List ℕ) (f : Forest) → nodes f ≤ nodes (put_words place cs f)
   words_size place [] f = omega arith

@@ -12,11 +12,10 @@ use Rattle.tree_model.proofs.AdoptionLemmas.{taken_off_sound, unlisted_sound}
 use Rattle.tree_model.proofs.CalmLemmas.{reconstructed_once}
 use Rattle.tree_model.proofs.InsertedLemmas.{attributed_sound}
 use Rattle.tree_model.proofs.KeptAdoption.{adoption_kept, reconstructed_kept}
-use Rattle.tree_model.proofs.KeptLemmas.{broken_out_kept, closed_foreign_kept}
-use Rattle.tree_model.proofs.KeptLemmas.{closed_item_kept, closed_other_kept, closed_p_kept, commented_kept}
-use Rattle.tree_model.proofs.KeptLemmas.{doctyped_kept, formatting_kept, implied_kept, inserted_kept, kept_nodes}
-use Rattle.tree_model.proofs.KeptLemmas.{popped_down_kept, popped_to_kept, root_place, said_kept}
-use Rattle.tree_model.proofs.KeptLemmas.{with_element_kept}
+use Rattle.tree_model.proofs.KeptLemmas.{broken_out_kept, closed_foreign_kept, closed_item_kept, closed_other_kept}
+use Rattle.tree_model.proofs.KeptLemmas.{closed_p_kept, commented_kept, doctyped_kept, formatting_kept, implied_kept}
+use Rattle.tree_model.proofs.KeptLemmas.{inserted_kept, kept_nodes, popped_down_kept, popped_to_kept, root_place}
+use Rattle.tree_model.proofs.KeptLemmas.{said_kept, with_element_kept}
 use Rattle.tree_model.proofs.KeptSizes.{attributes_grow, out_grows}
 use Rattle.tree_model.proofs.ListedLemmas.{cleared_sound, marked_sound}
 use Rattle.tree_model.proofs.PlaceLemmas.{here_there}

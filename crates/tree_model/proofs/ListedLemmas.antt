@@ -1,6 +1,6 @@
 -- What is done to the list of active formatting elements keeps a tree that is being built sound.
-use Rattle.std.proofs.Common.{◌≡◌, ℕ, ◌==◌, Bool, true, false, ◌&&◌, inl, inr, sym, ap, subst, ◌∙◌, List, [], ◌∷◌}
-use Rattle.std.proofs.Common.{if◌then◌else◌, codes}
+use Rattle.std.proofs.Common.{◌≡◌, ◌==◌, ◌&&◌, ◌∙◌, [], ◌∷◌, if◌then◌else◌, Bool, List, ap, codes, false, inl, inr}
+use Rattle.std.proofs.Common.{subst, sym, true, ℕ}
 use Rattle.std.specs.Bool.{nat_lt}
 use Rattle.tree_formatting.specs.Alike.{count_alike, is_alike}
 use Rattle.tree_formatting.specs.Entries.{Entry, before_marker, formatted, marker, up_to_marker}
@@ -55,10 +55,10 @@ either_listed : (c : Bool) (n : ℕ) (tag : Tag) (xs ys zs : List Entry) → (Is
 either_listed true n tag xs ys zs f g l = f l
 either_listed false n tag xs ys zs f g l = g l
 
-listed_behind : (n m : ℕ) (tag held : Tag) (xs ys : List Entry) → (IsListed n tag xs → IsListed n tag ys) →
+listed_after : (n m : ℕ) (tag held : Tag) (xs ys : List Entry) → (IsListed n tag xs → IsListed n tag ys) →
     IsListed n tag (formatted m held ∷ xs) → IsListed n tag (formatted m held ∷ ys)
-listed_behind n m tag held xs ys f (inl e) = inl e
-listed_behind n m tag held xs ys f (inr l) = inr (f l)
+listed_after n m tag held xs ys f (inl e) = inl e
+listed_after n m tag held xs ys f (inr l) = inr (f l)
 
 earliest_listed : (n : ℕ) (tag new : Tag) (entries : List Entry) → IsListed n tag (without_earliest new entries) →
     IsListed n tag entries
@@ -67,7 +67,7 @@ earliest_listed n tag new (marker ∷ rest) l = l
 earliest_listed n tag new (formatted m held ∷ rest) l =
     either_listed (is_alike new (formatted m held) && (count_alike new (up_to_marker rest) == 0)) n tag rest
     (formatted m held ∷ without_earliest new rest) (formatted m held ∷ rest) (λ i. inr i)
-    (listed_behind n m tag held (without_earliest new rest) rest (earliest_listed n tag new rest)) l
+    (listed_after n m tag held (without_earliest new rest) rest (earliest_listed n tag new rest)) l
 
 kept_listed : (n : ℕ) (tag new : Tag) (entries : List Entry) →
     IsListed n tag (if nat_lt 2 (count_alike new (up_to_marker entries)) then without_earliest new entries else entries)

@@ -1,10 +1,9 @@
 -- Elements of the list of active formatting elements that are made anew.
-use Rattle.std.proofs.Common.{◌≡◌, ℕ, ◌+◌, ◌-◌, ◌<◌, ◌≤◌, Bool, true, false, ◌⊎◌, inl, inr, refl, sym, ap, ap₂, subst}
-use Rattle.std.proofs.Common.{◌∙◌, List, [], ◌∷◌, ◌++◌, zero, suc, arith, drop, length, map, reverse, slice_index_or}
-use Rattle.std.proofs.Common.{take, cond}
+use Rattle.std.proofs.Common.{◌≡◌, ◌+◌, ◌-◌, ◌<◌, ◌≤◌, ◌⊎◌, ◌∙◌, [], ◌∷◌, ◌++◌, Bool, List, ap, ap₂, arith, cond, drop}
+use Rattle.std.proofs.Common.{false, inl, inr, length, map, refl, reverse, slice_index_or, subst, suc, sym, take, true}
+use Rattle.std.proofs.Common.{zero, ℕ}
 use Rattle.std.proofs.lemmas.Bool.{cond-false, cond-true}
-use Rattle.std.proofs.lemmas.List.{append_assoc, length-append, length-reverse, map-append, reverse-append}
-use Rattle.std.proofs.lemmas.List.{take_more}
+use Rattle.std.proofs.lemmas.List.{append_assoc, length-append, length-reverse, map-append, reverse-append, take_more}
 use Rattle.std.proofs.Math.Seq.{drop-append_seam, take-append_seam}
 use Rattle.tree_formatting.specs.Alike.{AreFew}
 use Rattle.tree_formatting.specs.Entries.{Entry, entries_of, entry_of, formatted, given, marker}

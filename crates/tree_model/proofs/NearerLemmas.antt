@@ -1,6 +1,6 @@
 -- Which of two numbers stands nearer to the front of a list, and what changes of a list make of that.
-use Rattle.std.proofs.Common.{◌≡◌, ℕ, ◌⊎◌, inl, inr, refl, sym, subst, ◌∙◌, Bool, true, false, List, [], ◌∷◌, ◌++◌}
-use Rattle.std.proofs.Common.{◌==◌, if◌then◌else◌, eqb-true, map}
+use Rattle.std.proofs.Common.{◌≡◌, ◌⊎◌, ◌∙◌, [], ◌∷◌, ◌++◌, ◌==◌, if◌then◌else◌, Bool, List, eqb-true, false, inl, inr}
+use Rattle.std.proofs.Common.{map, refl, subst, sym, true, ℕ}
 use Rattle.std.proofs.lemmas.Bool.{cond_both, eqb-false}
 use Rattle.tree_forest.specs.Changes.{left_out}
 use Rattle.tree_forest.specs.Forest.{Forest}
@@ -61,9 +61,9 @@ compared a b (n ∷ ns) (inr i) (inr j) =
     either (λ e. inl e) (either (λ h. inr (inl (inr h))) (λ h. inr (inr (inr h)))) (compared a b ns i j)
 
 -- in lists one after another
-pub in_behind : (n : ℕ) (ms ns : List ℕ) → IsIn n ns → IsIn n (ms ++ ns)
-in_behind n [] ns i = i
-in_behind n (m ∷ ms) ns i = inr (in_behind n ms ns i)
+pub in_after : (n : ℕ) (ms ns : List ℕ) → IsIn n ns → IsIn n (ms ++ ns)
+in_after n [] ns i = i
+in_after n (m ∷ ms) ns i = inr (in_after n ms ns i)
 
 pub in_front_part : (n : ℕ) (ms ns : List ℕ) → IsIn n ms → IsIn n (ms ++ ns)
 in_front_part n [] ns i = absurd i
@@ -72,7 +72,7 @@ in_front_part n (m ∷ ms) ns (inr i) = inr (in_front_part n ms ns i)
 
 pub nearer_across : (a b : ℕ) (ms ns : List ℕ) → IsIn a ms → IsIn b ns → IsNearer a b (ms ++ ns)
 nearer_across a b [] ns i j = absurd i
-nearer_across a b (m ∷ ms) ns (inl e) j = inl (e, in_behind b ms ns j)
+nearer_across a b (m ∷ ms) ns (inl e) j = inl (e, in_after b ms ns j)
 nearer_across a b (m ∷ ms) ns (inr i) j = inr (nearer_across a b ms ns i j)
 
 -- what stands before a number
@@ -97,8 +97,8 @@ pub record IsLeft (ms ns : List ℕ) : Type 0 where
 pub all_left : (ns : List ℕ) → IsLeft ns ns
 all_left ns = record { within = λ a i. i; nearer = λ a b h. h }
 
-pub left_behind : (n : ℕ) (ms ns : List ℕ) → IsLeft ms ns → IsLeft ms (n ∷ ns)
-left_behind n ms ns left = record { within = λ a i. inr (left.within a i); nearer = λ a b h. inr (left.nearer a b h) }
+pub left_after : (n : ℕ) (ms ns : List ℕ) → IsLeft ms ns → IsLeft ms (n ∷ ns)
+left_after n ms ns left = record { within = λ a i. inr (left.within a i); nearer = λ a b h. inr (left.nearer a b h) }
 
 left_with : (n : ℕ) (ms ns : List ℕ) → IsLeft ms ns → IsLeft (n ∷ ms) (n ∷ ns)
 left_with n ms ns left = record {
@@ -109,14 +109,14 @@ left_with n ms ns left = record {
 pub left_out_left : (n : ℕ) (ns : List ℕ) → IsLeft (left_out n ns) ns
 left_out_left n [] = all_left []
 left_out_left n (m ∷ ms) = cond_both (m == n) (left_out n ms) (m ∷ left_out n ms) (λ l. IsLeft l (m ∷ ms))
-    (λ e. left_behind m (left_out n ms) ms (left_out_left n ms))
+    (λ e. left_after m (left_out n ms) ms (left_out_left n ms))
     (λ e. left_with m (left_out n ms) ms (left_out_left n ms))
 
 pub farther_left : (n : ℕ) (ns : List ℕ) → IsLeft (farther n ns) ns
 farther_left n [] = all_left []
 farther_left n (m ∷ ms) = cond_both (m == n) ms (farther n ms) (λ l. IsLeft l (m ∷ ms))
-    (λ e. left_behind m ms ms (all_left ms))
-    (λ e. left_behind m (farther n ms) ms (farther_left n ms))
+    (λ e. left_after m ms ms (all_left ms))
+    (λ e. left_after m (farther n ms) ms (farther_left n ms))
 
 -- a number in place of another
 in_map : (g : ℕ → ℕ) (a : ℕ) (ns : List ℕ) → IsIn a (map g ns) → (x : ℕ) × (IsIn x ns × (a ≡ g x))

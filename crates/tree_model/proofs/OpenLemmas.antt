@@ -1,12 +1,11 @@
 -- Where an open element stands among the others, in memory and on the stack.
-use Rattle.std.proofs.Common.{◌≡◌, ℕ, zero, suc, ◌+◌, ◌<◌, ◌==◌, Bool, true, false, inl, inr, refl, sym, ap, subst, ◌∙◌}
-use Rattle.std.proofs.Common.{List, [], ◌∷◌, ◌++◌, length, drop, take, map, reverse, Some, option_map, slice_get}
-use Rattle.std.proofs.Common.{slice_index_or, slice_set, arith, if◌then◌else◌}
+use Rattle.std.proofs.Common.{◌≡◌, ◌+◌, ◌<◌, ◌==◌, ◌∙◌, [], ◌∷◌, ◌++◌, if◌then◌else◌, Bool, List, Some, ap, arith, drop}
+use Rattle.std.proofs.Common.{false, inl, inr, length, map, option_map, refl, reverse, slice_get, slice_index_or}
+use Rattle.std.proofs.Common.{slice_set, subst, suc, sym, take, true, zero, ℕ}
 use Rattle.std.specs.List.{insert, remove}
 use Rattle.std.proofs.lemmas.Bool.{eqb-true}
 use Rattle.std.proofs.lemmas.Bool.Decides.{nat_tests}
-use Rattle.std.proofs.lemmas.List.{append_assoc, map-append}
-use Rattle.std.proofs.lemmas.List.{reverse-append}
+use Rattle.std.proofs.lemmas.List.{append_assoc, map-append, reverse-append}
 use Rattle.tree_forest.specs.Changes.{left_out}
 use Rattle.tree_forest.specs.Forest.{is_in}
 use Rattle.tree_forest.specs.Orders.{AreDistinct, IsIn}
@@ -43,10 +42,10 @@ pub if_other : (b u : Bool) → (if b then true else u) ≡ false → b ≡ fals
 if_other true u e = absurd (cc)
 if_other false u e = refl
 
-pub none_behind : (n m : ℕ) (ns : List ℕ) → is_in n ns ≡ false → (n == m) ≡ false → is_in n (ns ++ m ∷ []) ≡ false
-none_behind n m [] none other = ap (λ b. if b then true else false) other
-none_behind n m (k ∷ ns) none other =
-    if_false (n == k) (is_in n ns) (is_in n (ns ++ m ∷ [])) none (λ rest. none_behind n m ns rest other)
+pub none_after : (n m : ℕ) (ns : List ℕ) → is_in n ns ≡ false → (n == m) ≡ false → is_in n (ns ++ m ∷ []) ≡ false
+none_after n m [] none other = ap (λ b. if b then true else false) other
+none_after n m (k ∷ ns) none other =
+    if_false (n == k) (is_in n ns) (is_in n (ns ++ m ∷ [])) none (λ rest. none_after n m ns rest other)
 
 pub other_way : (n m : ℕ) → (n == m) ≡ false → (m == n) ≡ false
 other_way n m e = grind (arith, nat_tests, e)
@@ -90,13 +89,13 @@ stack_around number xs k x within read =
     ∙ ap (λ v. v ++ stack_of number (take k xs)) (stack_of_both number (x ∷ []) (drop (suc k) xs))
     ∙ append_assoc _ (number x ∷ []) (stack_of number (take k xs))
 
-pub none_behind_more : {H : Type 0} (number : H → ℕ) (n : ℕ) (xs : List H) (k : ℕ) (x : H) → k < length xs →
+pub none_after_more : {H : Type 0} (number : H → ℕ) (n : ℕ) (xs : List H) (k : ℕ) (x : H) → k < length xs →
     x ≡ slice_index_or xs k x → (n == number x) ≡ false → is_in n (stack_of number (drop (suc k) xs)) ≡ false →
     is_in n (stack_of number (drop k xs)) ≡ false
-none_behind_more number n xs k x within read other none =
+none_after_more number n xs k x within read other none =
     ap (λ v. is_in n (stack_of number v)) (drop_from xs k x within ∙ ap (λ v. v ∷ drop (suc k) xs) (sym read))
     ∙ ap (is_in n) (stack_of_both number (x ∷ []) (drop (suc k) xs))
-    ∙ none_behind n (number x) (stack_of number (drop (suc k) xs)) none other
+    ∙ none_after n (number x) (stack_of number (drop (suc k) xs)) none other
 
 pub open_at : {H : Type 0} (number : H → ℕ) (n : ℕ) (xs : List H) (k : ℕ) (x : H) → k < length xs →
     x ≡ slice_index_or xs k x → number x ≡ n → is_in n (stack_of number (drop (suc k) xs)) ≡ false →
@@ -109,7 +108,7 @@ open_at number n xs k x within read is none =
       within = within;
       is_there = ap (is_in n) whole ∙ is_in_of n tops lows;
       before_it = sym (ap (farther n) whole ∙ farther_of n tops lows none);
-      behind_it = sym (ap (nearer n) whole ∙ nearer_of n tops lows none);
+      after_it = sym (ap (nearer n) whole ∙ nearer_of n tops lows none);
     }
 
 -- an element that is taken off
@@ -143,7 +142,7 @@ pub taken_off_at : {H : Type 0} (number : H → ℕ) (n : ℕ) (xs : List H) (k 
     AreDistinct (stack_of number xs) → stack_of number (remove xs k) ≡ left_out n (stack_of number xs)
 taken_off_at number n xs k at distinct =
     stack_of_both number (take k xs) (drop (suc k) xs)
-    ∙ ap (λ v. v ++ stack_of number (take k xs)) at.behind_it
+    ∙ ap (λ v. v ++ stack_of number (take k xs)) at.after_it
     ∙ ap (λ v. nearer n (stack_of number xs) ++ v) at.before_it
     ∙ sym (left_out_is n (stack_of number xs) distinct)
 
@@ -196,7 +195,7 @@ replaced_at number n xs k y at distinct =
     ∙ stack_of_both number (take k xs) (y ∷ drop (suc k) xs)
     ∙ ap (λ v. v ++ lows) (stack_of_both number (y ∷ []) (drop (suc k) xs))
     ∙ append_assoc _ (number y ∷ []) lows
-    ∙ ap (λ v. v ++ number y ∷ lows) at.behind_it
+    ∙ ap (λ v. v ++ number y ∷ lows) at.after_it
     ∙ ap (λ v. nearer n (stack_of number xs) ++ number y ∷ v) at.before_it
     ∙ sym (replaced_is n (number y) (stack_of number xs) distinct at.is_there)
 
@@ -232,9 +231,9 @@ put_before_none n c (m ∷ ns) none =
     ap (λ b. if b then c ∷ m ∷ ns else m ∷ put_before n c ns) (other_way n m (if_other (n == m) (is_in n ns) none))
     ∙ ap (λ ms. m ∷ ms) (put_before_none n c ns (rest_false (n == m) (is_in n ns) none))
 
-same_behind : (xs ys zs : List ℕ) → xs ++ ys ≡ xs ++ zs → ys ≡ zs
-same_behind [] ys zs e = e
-same_behind (x ∷ xs) ys zs e = same_behind xs ys zs (let t : xs ++ ys ≡ xs ++ zs = cc in t)
+same_after : (xs ys zs : List ℕ) → xs ++ ys ≡ xs ++ zs → ys ≡ zs
+same_after [] ys zs e = e
+same_after (x ∷ xs) ys zs e = same_after xs ys zs (let t : xs ++ ys ≡ xs ++ zs = cc in t)
 
 taken_and_dropped : {A : Type 0} (xs : List A) (k : ℕ) → xs ≡ take k xs ++ drop k xs
 taken_and_dropped xs zero = refl
@@ -246,34 +245,34 @@ pub put_at : {H : Type 0} (number : H → ℕ) (n : ℕ) (xs : List H) (k : ℕ)
 put_at number n xs k y at =
     let tops = stack_of number (drop (suc k) xs) in
     let up : stack_of number (take (suc k) xs) ≡ n ∷ farther n (stack_of number xs) =
-    same_behind tops _ _ (sym (stack_of_both number (take (suc k) xs) (drop (suc k) xs))
+    same_after tops _ _ (sym (stack_of_both number (take (suc k) xs) (drop (suc k) xs))
     ∙ ap (stack_of number) (sym (taken_and_dropped xs (suc k)))
     ∙ divided n (stack_of number xs) at.is_there
-    ∙ ap (λ v. v ++ n ∷ farther n (stack_of number xs)) (sym at.behind_it)) in
+    ∙ ap (λ v. v ++ n ∷ farther n (stack_of number xs)) (sym at.after_it)) in
     ap (λ j. stack_of number (insert xs j y)) (let e : k + 1 ≡ suc k = omega arith in e)
     ∙ stack_of_both number (take (suc k) xs) (y ∷ drop (suc k) xs)
     ∙ ap (λ v. v ++ stack_of number (take (suc k) xs)) (stack_of_both number (y ∷ []) (drop (suc k) xs))
     ∙ append_assoc tops (number y ∷ []) (stack_of number (take (suc k) xs))
     ∙ ap (λ v. tops ++ number y ∷ v) up
-    ∙ ap (λ v. v ++ number y ∷ n ∷ farther n (stack_of number xs)) at.behind_it
+    ∙ ap (λ v. v ++ number y ∷ n ∷ farther n (stack_of number xs)) at.after_it
     ∙ sym (put_before_is n (number y) (stack_of number xs) at.is_there)
 
 -- the element that was opened first
-root_behind : (ns : List ℕ) (n : ℕ) → root_of (ns ++ n ∷ []) ≡ n
-root_behind [] n = refl
-root_behind (m ∷ []) n = refl
-root_behind (m ∷ k ∷ ns) n = root_behind (k ∷ ns) n
+root_after : (ns : List ℕ) (n : ℕ) → root_of (ns ++ n ∷ []) ≡ n
+root_after [] n = refl
+root_after (m ∷ []) n = refl
+root_after (m ∷ k ∷ ns) n = root_after (k ∷ ns) n
 
-in_behind : (ns : List ℕ) (n : ℕ) → IsIn n (ns ++ n ∷ [])
-in_behind [] n = inl refl
-in_behind (m ∷ ns) n = inr (in_behind ns n)
+in_after : (ns : List ℕ) (n : ℕ) → IsIn n (ns ++ n ∷ [])
+in_after [] n = inl refl
+in_after (m ∷ ns) n = inr (in_after ns n)
 
 pub first_opened : {H : Type 0} (number : H → ℕ) (x : H) (xs : List H) →
     IsFirstOpened (Some (number x)) (stack_of number (x ∷ xs))
 first_opened number x xs =
     let e = stack_of_both number (x ∷ []) xs in (
-      ap root_of e ∙ root_behind (stack_of number xs) (number x),
-      subst (IsIn (number x)) (sym e) (in_behind (stack_of number xs) (number x)),
+      ap root_of e ∙ root_after (stack_of number xs) (number x),
+      subst (IsIn (number x)) (sym e) (in_after (stack_of number xs) (number x)),
     )
 
 pub first_get : {H : Type 0} (number : H → ℕ) (xs : List H) →

@@ -1,6 +1,6 @@
 -- Where a node is inserted there is a place for it.
-use Rattle.std.proofs.Common.{◌≡◌, ℕ, Bool, true, false, inl, inr, refl, sym, subst, List, [], ◌∷◌}
-use Rattle.std.proofs.Common.{Option, None, Some, codes, if◌then◌else◌}
+use Rattle.std.proofs.Common.{◌≡◌, [], ◌∷◌, if◌then◌else◌, Bool, List, None, Option, Some, codes, false, inl, inr, refl}
+use Rattle.std.proofs.Common.{subst, sym, true, ℕ}
 use Rattle.tree_forest.specs.Conditions.{IsPlace}
 use Rattle.tree_forest.specs.Forest.{Forest, Holds, contents_of, name_of, parent_of}
 use Rattle.tree_forest.specs.Orders.{IsForest, IsIn, of_contents}

@@ -1,6 +1,6 @@
 -- The last node goes to the place for inserting into the common ancestor.
-use Rattle.std.proofs.Common.{◌≡◌, ℕ, ◌<◌, ◌||◌, refl, sym, ap, subst, ◌∙◌, List, [], ◌∷◌, Option, None, Some, IfSome}
-use Rattle.std.proofs.Common.{codes, option_map}
+use Rattle.std.proofs.Common.{◌≡◌, ◌<◌, ◌||◌, ◌∙◌, [], ◌∷◌, IfSome, List, None, Option, Some, ap, codes, option_map}
+use Rattle.std.proofs.Common.{refl, subst, sym, ℕ}
 use Rattle.tree_forest.specs.Changes.{detached}
 use Rattle.tree_forest.specs.Conditions.{CanMove, CanPut, IsPlace, is_from}
 use Rattle.tree_forest.specs.Forest.{Holds, IsElementKind, element_of}
@@ -19,8 +19,8 @@ use Rattle.tree_model.proofs.CountsKept.{kept_by, out_kept}
 use Rattle.tree_model.proofs.SeenLemmas.{seen_changed}
 use Rattle.tree_model.proofs.FosterLemmas.{IsOver, at_from, from_place}
 use Rattle.tree_model.proofs.GrownLemmas.{moved_sound, no_document}
-use Rattle.tree_model.proofs.NearerLemmas.{IsNearer, compared, in_behind, in_front_part, nearer_across, nearer_on}
-use Rattle.tree_model.proofs.NearerLemmas.{nearer_in, never_above, not_twice}
+use Rattle.tree_model.proofs.NearerLemmas.{IsNearer, compared, in_after, in_front_part, nearer_across, nearer_in}
+use Rattle.tree_model.proofs.NearerLemmas.{nearer_on, never_above, not_twice}
 use Rattle.tree_model.proofs.PlaceLemmas.{current_there, first_in, place_for_there}
 use Rattle.tree_model.proofs.SoundLemmas.{either}
 
@@ -41,7 +41,7 @@ module _ (last : ℕ) (uppers lows : List ℕ) (b : Building) (laws : Laws) (sou
   last_open = subst (IsIn last) (sym can.whole) (in_front_part last uppers lows can.below_it)
 
   low_open : (q : ℕ) → IsIn q lows → IsIn q b.stack
-  low_open q i = subst (IsIn q) (sym can.whole) (in_behind q uppers lows i)
+  low_open q i = subst (IsIn q) (sym can.whole) (in_after q uppers lows i)
 
   pub is_place : IsPlace (place_for (current_of lows) (out_of_place last b)) (detached last b.forest)
   is_place =
@@ -114,7 +114,7 @@ pub ancestor_open : {H : Type 0} (number : H → ℕ) (ancestor : Option H) (las
 ancestor_open number None last b is = tt
 ancestor_open number (Some element) last b is =
     subst (IsIn (number element)) (sym is.can.whole)
-    (in_behind (number element) is.uppers is.lows (first_in (number element) is.lows is.first))
+    (in_after (number element) is.uppers is.lows (first_in (number element) is.lows is.first))
 
 pub ancestor_sound : (last : ℕ) (ancestor : Option ℕ) (b : Building) → Laws → Sound b → IsAncestor last ancestor b →
     Sound (placed last (ancestor_of ancestor) b)

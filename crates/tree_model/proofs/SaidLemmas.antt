@@ -1,13 +1,14 @@
 -- Characters that are inserted change neither an element nor the parent of a node, and so no place of insertion (WHATWG
 -- HTML, 13.2.6.1).
-use Rattle.std.proofs.Common.{◌≡◌, ℕ, zero, suc, ◌==◌, ◌&&◌, Bool, true, false, if◌then◌else◌, inl, inr, refl, sym, ap}
-use Rattle.std.proofs.Common.{ap₂, ◌∙◌, arith, List, [], ◌∷◌, ◌++◌, map, Option, None, Some, codes}
+use Rattle.std.proofs.Common.{◌≡◌, ◌==◌, ◌&&◌, if◌then◌else◌, ◌∙◌, [], ◌∷◌, ◌++◌, Bool, List, None, Option, Some, ap}
+use Rattle.std.proofs.Common.{ap₂, arith, codes, false, inl, inr, map, refl, suc, sym, true, zero, ℕ}
 use Rattle.std.proofs.lemmas.Bool.{ne_eqb}
 use Rattle.tree_forest.specs.Changes.{changed, made, saying, saying_kind}
 use Rattle.tree_forest.specs.Forest.{Element, Forest, Holds, Kind, comment, doctype, document, element, element_of}
 use Rattle.tree_forest.specs.Forest.{instruction, is_in, kind_at, nodes, parent_from, parent_of, text}
 use Rattle.tree_forest.specs.Orders.{IsIn}
-use Rattle.tree_forest.specs.Places.{Place, based_on, before, behind, below, in_front, put_before, put_node, put_words}
+use Rattle.tree_forest.specs.Places.{Place, based_on, before, trailing, below, in_front, put_before, put_node}
+use Rattle.tree_forest.specs.Places.{put_words}
 use Rattle.tree_forest.proofs.Nodes.{kept}
 use Rattle.tree_forest.proofs.PathLemmas.{words_are}
 use Rattle.tree_names.specs.ElementSets.{foster_targets}
@@ -21,9 +22,9 @@ use Rattle.tree_model.proofs.PlaceLemmas.{current_there, here_there}
 use Rattle.tree_model.proofs.SoundLemmas.{either}
 
 -- a number more among others is no other
-in_behind : (n c : ℕ) (ns : List ℕ) → (n == c) ≡ false → is_in n (ns ++ c ∷ []) ≡ is_in n ns
-in_behind n c [] off = ap (λ (b : Bool). if b then true else false) off
-in_behind n c (m ∷ ns) off = ap (λ (b : Bool). if n == m then true else b) (in_behind n c ns off)
+in_after : (n c : ℕ) (ns : List ℕ) → (n == c) ≡ false → is_in n (ns ++ c ∷ []) ≡ is_in n ns
+in_after n c [] off = ap (λ (b : Bool). if b then true else false) off
+in_after n c (m ∷ ns) off = ap (λ (b : Bool). if n == m then true else b) (in_after n c ns off)
 
 in_before_step : (t : Bool) (n c m : ℕ) (ns more : List ℕ) → (n == c) ≡ false → is_in n more ≡ is_in n ns →
     is_in n (if t then c ∷ m ∷ ns else m ∷ more) ≡ is_in n (m ∷ ns)
@@ -36,13 +37,13 @@ in_before n s c (m ∷ ns) off =
     in_before_step (m == s) n c m ns (put_before s c ns) off (in_before n s c ns off)
 
 -- the parent of a node, where another is put, where one is made, and where a text grows
-parent_behind : (n c p at : ℕ) (f : Forest) → (n == c) ≡ false →
-    parent_from n at (changed p (behind c) f) ≡ parent_from n at f
-parent_behind n c p at [] off = refl
-parent_behind n c zero at (x ∷ f) off =
-    ap (λ (b : Bool). if b then Some at else parent_from n (suc at) f) (in_behind n c x.children off)
-parent_behind n c (suc p) at (x ∷ f) off =
-    ap (λ (found : Option ℕ). if is_in n x.children then Some at else found) (parent_behind n c p (suc at) f off)
+parent_after : (n c p at : ℕ) (f : Forest) → (n == c) ≡ false →
+    parent_from n at (changed p (trailing c) f) ≡ parent_from n at f
+parent_after n c p at [] off = refl
+parent_after n c zero at (x ∷ f) off =
+    ap (λ (b : Bool). if b then Some at else parent_from n (suc at) f) (in_after n c x.children off)
+parent_after n c (suc p) at (x ∷ f) off =
+    ap (λ (found : Option ℕ). if is_in n x.children then Some at else found) (parent_after n c p (suc at) f off)
 
 parent_before : (n s c at : ℕ) (f : Forest) → (n == c) ≡ false →
     parent_from n at (map (in_front s c) f) ≡ parent_from n at f
@@ -53,7 +54,7 @@ parent_before n s c at (x ∷ f) off =
 
 parent_put : (place : Place) (n c : ℕ) (f : Forest) → (n == c) ≡ false →
     parent_of n (put_node place c f) ≡ parent_of n f
-parent_put (below p) n c f off = parent_behind n c p 0 f off
+parent_put (below p) n c f off = parent_after n c p 0 f off
 parent_put (before s) n c f off = parent_before n s c 0 f off
 
 parent_made : (kind : Kind) (n at : ℕ) (f : Forest) → parent_from n at (made kind f) ≡ parent_from n at f

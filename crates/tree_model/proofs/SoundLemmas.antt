@@ -1,6 +1,6 @@
 -- What each change keeps of a tree that is being built.
-use Rattle.std.proofs.Common.{◌≡◌, ℕ, true, ◌⊎◌, inl, inr, refl, sym, ap, subst, ◌∙◌, List, [], ◌∷◌}
-use Rattle.std.proofs.Common.{Some, codes, Result, Ok, Err, OnErr, OnOk}
+use Rattle.std.proofs.Common.{◌≡◌, ◌⊎◌, ◌∙◌, [], ◌∷◌, Err, List, Ok, OnErr, OnOk, Result, Some, ap, codes, inl, inr}
+use Rattle.std.proofs.Common.{refl, subst, sym, true, ℕ}
 use Rattle.tree_forest.specs.Forest.{Forest, IsElement, IsElementKind, contents_of, element_of, kind_at, name_of}
 use Rattle.tree_forest.specs.Orders.{Above, AreDistinct, IsForest, IsIn, IsParent}
 use Rattle.tree_forest.specs.declared.sink.QuirksMode.{QuirksMode}

@@ -1,6 +1,5 @@
 -- The stack of open elements in memory, walked from its end.
-use Rattle.std.proofs.Common.{◌≡◌, ℕ, true, ap, ◌∙◌, List, [], ◌∷◌, ◌++◌, Some}
-use Rattle.std.proofs.Common.{map, reverse}
+use Rattle.std.proofs.Common.{◌≡◌, ◌∙◌, [], ◌∷◌, ◌++◌, List, Some, ap, map, reverse, true, ℕ}
 use Rattle.std.proofs.lemmas.List.{map-append, reverse-append}
 use Rattle.tree_forest.specs.Forest.{Forest, IsElement, contents_of}
 use Rattle.tree_forest.specs.Orders.{IsIn}

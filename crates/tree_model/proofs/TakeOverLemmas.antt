@@ -2,7 +2,7 @@
 use Rattle.std.proofs.Common.{◌≡◌, ℕ, ◌<◌, true, ◌⊎◌, inl, inr, sym, ap, ap₂, subst, ◌∙◌, List, Option, None, Some}
 use Rattle.std.proofs.lemmas.Bool.{cond_both}
 use Rattle.tree_formatting.specs.Alike.{AreFew}
-use Rattle.tree_formatting.specs.Entries.{Entry, handed_over, is_listed, moved_behind, tag_in, up_to_marker}
+use Rattle.tree_formatting.specs.Entries.{Entry, handed_over, is_listed, moved_after, tag_in, up_to_marker}
 use Rattle.tree_formatting.specs.Entries.{without_entry}
 use Rattle.tree_forest.specs.Changes.{left_out, reparented}
 use Rattle.tree_forest.specs.Conditions.{CanMove, CanPut, CanReparent}
@@ -19,8 +19,8 @@ use Rattle.tree_model.specs.Laws.{Laws}
 use Rattle.tree_model.specs.Sound.{IsListed, Sound}
 use Rattle.tree_model.proofs.CopyLemmas.{same_tag}
 use Rattle.tree_model.proofs.CountsKept.{kept_by}
-use Rattle.tree_model.proofs.GrownLemmas.{IsApart, grown_sound, made_apart, no_document, none_above}
-use Rattle.tree_model.proofs.GrownLemmas.{not_above_old, old_held, old_not_above}
+use Rattle.tree_model.proofs.GrownLemmas.{IsApart, grown_sound, made_apart, no_document, none_above, not_above_old}
+use Rattle.tree_model.proofs.GrownLemmas.{old_held, old_not_above}
 use Rattle.tree_model.proofs.InsertedLemmas.{not_itself}
 use Rattle.tree_model.proofs.ListedAfter.{listed_handed, listed_moved, tag_listed}
 use Rattle.tree_model.proofs.NearerLemmas.{IsLeft, IsNearer, NearerPut, farther_in, in_put_before, left_out_left}
@@ -127,7 +127,7 @@ entry_listed : (bookmark : Option ℕ) (n m k : ℕ) (tag held : Tag) (b : Build
 entry_listed None n m k tag held b e l = handed_tag n m k tag held b.formatting e l
 entry_listed (Some after) n m k tag held b e l =
     cond_both (is_listed after (up_to_marker (without_entry n b.formatting)))
-    (moved_behind n m after b.formatting) (handed_over n m b.formatting)
+    (moved_after n m after b.formatting) (handed_over n m b.formatting)
     (λ es. IsListed k held es → IsListed k held b.formatting ⊎ ((k ≡ m) × (held ≡ tag)))
     (λ _. listed_moved n m after k held tag b.formatting e)
     (λ _. handed_tag n m k tag held b.formatting e) l
@@ -137,7 +137,7 @@ entry_few : (laws : Laws) (bookmark : Option ℕ) (n m : ℕ) (b : Building) →
 entry_few laws None n m b few listed = laws.few_handed n m b.formatting few
 entry_few laws (Some after) n m b few listed =
     cond_both (is_listed after (up_to_marker (without_entry n b.formatting)))
-    (moved_behind n m after b.formatting) (handed_over n m b.formatting) AreFew
+    (moved_after n m after b.formatting) (handed_over n m b.formatting) AreFew
     (λ there. laws.few_moved n m after b.formatting few listed there)
     (λ _. laws.few_handed n m b.formatting few)
 

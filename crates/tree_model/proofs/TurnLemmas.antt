@@ -1,6 +1,6 @@
 -- What a turn of the adoption agency comes to.
-use Rattle.std.proofs.Common.{◌≡◌, ℕ, Bool, true, false, ◌==◌, List, [], ◌∷◌, None, Some, refl, ap, sym, inl, inr, ◌∙◌}
-use Rattle.std.proofs.Common.{if◌then◌else◌}
+use Rattle.std.proofs.Common.{◌≡◌, ◌==◌, [], ◌∷◌, ◌∙◌, if◌then◌else◌, Bool, List, None, Some, ap, false, inl, inr, refl}
+use Rattle.std.proofs.Common.{sym, true, ℕ}
 use Rattle.tree_formatting.specs.Entries.{Entry, formatted, is_listed, is_named, last_named, marker, tag_in}
 use Rattle.tree_formatting.specs.Entries.{up_to_marker}
 use Rattle.html_lexemes.specs.declared.token.Tag.{Tag}

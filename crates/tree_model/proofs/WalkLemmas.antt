@@ -1,6 +1,6 @@
 -- The walk of the adoption agency goes on.
-use Rattle.std.proofs.Common.{◌≡◌, ℕ, ◌<◌, ◌==◌, ◌||◌, Bool, true, false, inl, inr, refl, sym, ap, subst, ◌∙◌, List, []}
-use Rattle.std.proofs.Common.{◌∷◌, ◌++◌, None, Some, Option, arith, codes, bytes_eq, if◌then◌else◌}
+use Rattle.std.proofs.Common.{◌≡◌, ◌<◌, ◌==◌, ◌||◌, ◌∙◌, [], ◌∷◌, ◌++◌, if◌then◌else◌, Bool, List, None, Option, Some}
+use Rattle.std.proofs.Common.{ap, arith, bytes_eq, codes, false, inl, inr, refl, subst, sym, true, ℕ}
 use Rattle.std.proofs.lemmas.Bool.{cases_Bool}
 use Rattle.std.proofs.lemmas.Bool.Decides.{nat_tests}
 use Rattle.std.proofs.lemmas.List.{append_assoc}
@@ -30,12 +30,12 @@ use Rattle.tree_model.proofs.AdoptionLemmas.{taken_off_sound, unlisted_sound}
 use Rattle.tree_model.proofs.CopyLemmas.{copied_sound, copied_stays}
 use Rattle.tree_model.proofs.InsertedLemmas.{not_itself}
 use Rattle.tree_model.proofs.ListedAfter.{tag_listed}
-use Rattle.tree_model.proofs.NearerLemmas.{in_behind, in_front_part}
+use Rattle.tree_model.proofs.NearerLemmas.{in_after, in_front_part}
 use Rattle.tree_model.proofs.OpenLemmas.{divided}
 use Rattle.tree_model.proofs.SoundLemmas.{either}
-use Rattle.tree_model.proofs.WalkLists.{handed_is_listed, in_one_more, left_out_there}
-use Rattle.tree_model.proofs.WalkLists.{listed_behind_handed, listed_behind_without, nearer_there, not_behind}
-use Rattle.tree_model.proofs.WalkLists.{not_in_front, other_way, replaced_there, tag_handed, tag_without}
+use Rattle.tree_model.proofs.WalkLists.{handed_is_listed, in_one_more, left_out_there, listed_after_handed}
+use Rattle.tree_model.proofs.WalkLists.{listed_after_without, nearer_there, not_after, not_in_front, other_way}
+use Rattle.tree_model.proofs.WalkLists.{replaced_there, tag_handed, tag_without}
 
 -- a word that is in a set, where another is not, is another
 other_word : (set : List (List ℕ)) (word name : List ℕ) (b : Bool) → is_one_of set name ≡ b →
@@ -98,7 +98,7 @@ plain_in_scope n m f (k ∷ ms) there i =
     else up_to scope_barriers f ms)) (other_way k n) ∙ there) i
 
 in_of : (n : ℕ) (ns : List ℕ) → is_in n ns ≡ true → IsIn n ns
-in_of n ns there = subst (IsIn n) (sym (divided n ns there)) (in_behind n (nearer n ns) (n ∷ farther n ns) (inl refl))
+in_of n ns there = subst (IsIn n) (sym (divided n ns there)) (in_after n (nearer n ns) (n ∷ farther n ns) (inl refl))
 
 last_step : (m n : ℕ) (f : Forest) (ns : List ℕ) (found : Option ℕ) (is : Bool) →
     (found ≡ Some m → IsIn m ns) → or_itself found is n ≡ Some m → IsIn m (n ∷ ns)
@@ -142,10 +142,10 @@ walk_begins n block tag b sound there scope found tagged listed =
       sound = sound;
       whole = divided n b.stack there ∙ ap (λ ms. ms ++ n ∷ farther n b.stack) cut
           ∙ append_assoc front (farther block near) (n ∷ farther n b.stack);
-      last_in = in_behind block (nearer block near) (block ∷ []) (inl refl);
-      block_in = in_behind block (nearer block near) (block ∷ []) (inl refl);
+      last_in = in_after block (nearer block near) (block ∷ []) (inl refl);
+      block_in = in_after block (nearer block near) (block ∷ []) (inl refl);
       plain = λ m i. plain m (subst (IsIn m) (sym cut) (in_front_part m front (farther block near) i));
-      plain_left = λ m i. plain m (subst (IsIn m) (sym cut) (in_behind m front (farther block near) i));
+      plain_left = λ m i. plain m (subst (IsIn m) (sym cut) (in_after m front (farther block near) i));
       tagged = tagged;
       listed = listed;
     }
@@ -157,11 +157,11 @@ module _ (n block m : ℕ) (tag : Tag) (left lows : List ℕ) (w : Walk) (laws :
   distinct = subst AreDistinct walk.whole walk.sound.distinct
 
   pub other : ¬ (n ≡ m)
-  other e = not_behind m walk.uppers (left ++ n ∷ lows) distinct
-      (subst (λ k. IsIn k (left ++ n ∷ lows)) e (in_behind n left (n ∷ lows) (inl refl)))
+  other e = not_after m walk.uppers (left ++ n ∷ lows) distinct
+      (subst (λ k. IsIn k (left ++ n ∷ lows)) e (in_after n left (n ∷ lows) (inl refl)))
 
   pub is_open : IsIn m w.tree.stack
-  is_open = subst (IsIn m) (sym walk.whole) (in_behind m walk.uppers (m ∷ (left ++ n ∷ lows)) (inl refl))
+  is_open = subst (IsIn m) (sym walk.whole) (in_after m walk.uppers (m ∷ (left ++ n ∷ lows)) (inl refl))
 
   pub last_below : IsIn w.last (nearer m w.tree.stack)
   last_below = subst (IsIn w.last) (sym (ap (nearer m) walk.whole
@@ -200,7 +200,7 @@ module _ (n block m : ℕ) (tag : Tag) (left lows : List ℕ) (w : Walk) (laws :
     plain = walk.plain;
     plain_left = λ k i. walk.plain_left k (inr i);
     tagged = tag_without n m w.tree.formatting other ∙ walk.tagged;
-    listed = listed_behind_without n m w.tree.formatting other ∙ walk.listed;
+    listed = listed_after_without n m w.tree.formatting other ∙ walk.listed;
   }
 
   held_of : (k : ℕ) → IsIn k w.tree.stack → Holds k w.tree.forest
@@ -210,11 +210,11 @@ module _ (n block m : ℕ) (tag : Tag) (left lows : List ℕ) (w : Walk) (laws :
   front_open k i = subst (IsIn k) (sym walk.whole) (in_front_part k walk.uppers (m ∷ (left ++ n ∷ lows)) i)
 
   left_open : (k : ℕ) → IsIn k (left ++ n ∷ lows) → IsIn k w.tree.stack
-  left_open k i = subst (IsIn k) (sym walk.whole) (in_behind k walk.uppers (m ∷ (left ++ n ∷ lows)) (inr i))
+  left_open k i = subst (IsIn k) (sym walk.whole) (in_after k walk.uppers (m ∷ (left ++ n ∷ lows)) (inr i))
 
   not_new : ¬ (n ≡ nodes w.tree.forest)
   not_new e = not_itself n (subst (λ k. n < k) (sym e)
-      (held_of n (left_open n (in_behind n left (n ∷ lows) (inl refl)))))
+      (held_of n (left_open n (in_after n left (n ∷ lows) (inl refl)))))
 
   module _ (held : Tag) (tagged : tag_in m w.tree.formatting ≡ Some held) where
     copy_sound : Sound (copied m held w.last w.tree)
@@ -248,12 +248,12 @@ module _ (n block m : ℕ) (tag : Tag) (left lows : List ℕ) (w : Walk) (laws :
       whole = ap (replaced m (nodes w.tree.forest)) walk.whole
           ∙ replaced_there m (nodes w.tree.forest) walk.uppers (left ++ n ∷ lows) distinct
           ∙ sym (append_assoc walk.uppers (nodes w.tree.forest ∷ []) (left ++ n ∷ lows));
-      last_in = in_behind (nodes w.tree.forest) walk.uppers (nodes w.tree.forest ∷ []) (inl refl);
+      last_in = in_after (nodes w.tree.forest) walk.uppers (nodes w.tree.forest ∷ []) (inl refl);
       block_in = in_front_part block walk.uppers (nodes w.tree.forest ∷ []) walk.block_in;
       plain = one_more;
       plain_left = λ k i. stop_stays k (left_open k (in_front_part k left (n ∷ lows) i)) (walk.plain_left k (inr i));
       tagged = tag_handed n m (nodes w.tree.forest) w.tree.formatting other not_new ∙ walk.tagged;
-      listed = listed_behind_handed n m (nodes w.tree.forest) w.tree.formatting other not_new ∙ walk.listed;
+      listed = listed_after_handed n m (nodes w.tree.forest) w.tree.formatting other not_new ∙ walk.listed;
     }
 
   walk_by : (t : Option Tag) (is_late : Bool) → tag_in m w.tree.formatting ≡ t →

@@ -1,6 +1,6 @@
 -- Lists that an element divides, and entries of others than the one that is changed.
-use Rattle.std.proofs.Common.{◌≡◌, ℕ, ◌==◌, Bool, true, false, ◌⊎◌, inl, inr, refl, sym, ap, subst, ◌∙◌, List, [], ◌∷◌}
-use Rattle.std.proofs.Common.{◌++◌, Some, if◌then◌else◌, arith, eqb-true}
+use Rattle.std.proofs.Common.{◌≡◌, ◌==◌, ◌⊎◌, ◌∙◌, [], ◌∷◌, ◌++◌, if◌then◌else◌, Bool, List, Some, ap, arith, eqb-true}
+use Rattle.std.proofs.Common.{false, inl, inr, refl, subst, sym, true, ℕ}
 use Rattle.std.proofs.lemmas.Bool.Decides.{nat_tests}
 use Rattle.tree_formatting.specs.Entries.{Entry, formatted, handed_over, is_listed, marker, tag_in, up_to_marker}
 use Rattle.tree_formatting.specs.Entries.{without_entry}
@@ -10,7 +10,7 @@ use Rattle.tree_forest.specs.Orders.{AreDistinct, IsIn}
 use Rattle.html_lexemes.specs.declared.token.Tag.{Tag}
 use Rattle.tree_model.specs.Adoption.{farther, nearer, replaced}
 use Rattle.tree_model.specs.Sound.{IsListed}
-use Rattle.tree_model.proofs.NearerLemmas.{in_behind}
+use Rattle.tree_model.proofs.NearerLemmas.{in_after}
 use Rattle.tree_model.proofs.OpenLemmas.{farther_of, is_in_of, left_out_is, nearer_of, replaced_is}
 use Rattle.tree_model.proofs.SoundLemmas.{either}
 
@@ -21,12 +21,12 @@ not_equal n m h = grind (arith, nat_tests, h)
 pub not_in_front : (m : ℕ) (xs ys : List ℕ) → AreDistinct (xs ++ m ∷ ys) → ¬ (IsIn m xs)
 not_in_front m [] ys distinct i = i
 not_in_front m (x ∷ xs) ys distinct (inl e) =
-    distinct.0 (subst (λ k. IsIn k (xs ++ m ∷ ys)) e (in_behind m xs (m ∷ ys) (inl refl)))
+    distinct.0 (subst (λ k. IsIn k (xs ++ m ∷ ys)) e (in_after m xs (m ∷ ys) (inl refl)))
 not_in_front m (x ∷ xs) ys distinct (inr i) = not_in_front m xs ys distinct.1 i
 
-pub not_behind : (m : ℕ) (xs ys : List ℕ) → AreDistinct (xs ++ m ∷ ys) → ¬ (IsIn m ys)
-not_behind m [] ys distinct = distinct.0
-not_behind m (x ∷ xs) ys distinct = not_behind m xs ys distinct.1
+pub not_after : (m : ℕ) (xs ys : List ℕ) → AreDistinct (xs ++ m ∷ ys) → ¬ (IsIn m ys)
+not_after m [] ys distinct = distinct.0
+not_after m (x ∷ xs) ys distinct = not_after m xs ys distinct.1
 
 pub is_none : (n : ℕ) (ns : List ℕ) → ¬ (IsIn n ns) → is_in n ns ≡ false
 is_none n [] none = refl
@@ -82,12 +82,12 @@ listed_without_step n m p tag es true is off more =
     sym (ap (λ b. if b then true else is_listed n (up_to_marker es)) (not_equal n p (λ e. off (e ∙ is refl))))
 listed_without_step n m p tag es false is off more = ap (λ t. if p == n then true else t) more
 
-pub listed_behind_without : (n m : ℕ) (es : List Entry) → ¬ (n ≡ m) →
+pub listed_after_without : (n m : ℕ) (es : List Entry) → ¬ (n ≡ m) →
     is_listed n (up_to_marker (without_entry m es)) ≡ is_listed n (up_to_marker es)
-listed_behind_without n m [] off = refl
-listed_behind_without n m (marker ∷ es) off = refl
-listed_behind_without n m (formatted p tag ∷ es) off =
-    listed_without_step n m p tag es (p == m) (eqb-true p m) off (listed_behind_without n m es off)
+listed_after_without n m [] off = refl
+listed_after_without n m (marker ∷ es) off = refl
+listed_after_without n m (formatted p tag ∷ es) off =
+    listed_without_step n m p tag es (p == m) (eqb-true p m) off (listed_after_without n m es off)
 
 tag_handed_step : (n m k p : ℕ) (tag : Tag) (es : List Entry) (b : Bool) → (b ≡ true → p ≡ m) → ¬ (n ≡ m) →
     ¬ (n ≡ k) → tag_in n (handed_over m k es) ≡ tag_in n es →
@@ -114,12 +114,12 @@ listed_handed_step n m k p tag es true is off new more =
     ∙ sym (ap (λ b. if b then true else is_listed n (up_to_marker es)) (not_equal n p (λ e. off (e ∙ is refl))))
 listed_handed_step n m k p tag es false is off new more = ap (λ t. if p == n then true else t) more
 
-pub listed_behind_handed : (n m k : ℕ) (es : List Entry) → ¬ (n ≡ m) → ¬ (n ≡ k) →
+pub listed_after_handed : (n m k : ℕ) (es : List Entry) → ¬ (n ≡ m) → ¬ (n ≡ k) →
     is_listed n (up_to_marker (handed_over m k es)) ≡ is_listed n (up_to_marker es)
-listed_behind_handed n m k [] off new = refl
-listed_behind_handed n m k (marker ∷ es) off new = refl
-listed_behind_handed n m k (formatted p tag ∷ es) off new =
-    listed_handed_step n m k p tag es (p == m) (eqb-true p m) off new (listed_behind_handed n m k es off new)
+listed_after_handed n m k [] off new = refl
+listed_after_handed n m k (marker ∷ es) off new = refl
+listed_after_handed n m k (formatted p tag ∷ es) off new =
+    listed_handed_step n m k p tag es (p == m) (eqb-true p m) off new (listed_after_handed n m k es off new)
 
 -- who takes an entry over is listed with its tag
 handed_is_step : (m k p : ℕ) (tag held : Tag) (es : List Entry) (b : Bool) →

@@ -1,9 +1,9 @@
 -- The adoption agency (WHATWG HTML, 13.2.6.4.7), for an end tag's name. The stack is the current node first.
-use Rattle.std.specs.Prelude.{ℕ, zero, suc, ◌==◌, Bool, true, false, ◌&&◌, not, List, [], ◌∷◌, Option, None, Some, map}
-use Rattle.std.specs.Prelude.{if◌then◌else◌}
+use Rattle.std.specs.Prelude.{◌==◌, ◌&&◌, [], ◌∷◌, if◌then◌else◌, Bool, List, None, Option, Some, false, map, not, suc}
+use Rattle.std.specs.Prelude.{true, zero, ℕ}
 use Rattle.std.specs.Bool.{nat_lt}
-use Rattle.tree_formatting.specs.Entries.{Entry, handed_over, is_listed, last_named, moved_behind, tag_in}
-use Rattle.tree_formatting.specs.Entries.{up_to_marker, without_entry}
+use Rattle.tree_formatting.specs.Entries.{Entry, handed_over, is_listed, last_named, moved_after, tag_in, up_to_marker}
+use Rattle.tree_formatting.specs.Entries.{without_entry}
 use Rattle.tree_forest.specs.Changes.{detached, left_out, reparented}
 use Rattle.tree_forest.specs.Forest.{Forest, is_in, name_of, nodes}
 use Rattle.tree_forest.specs.Places.{below, put_before, put_node}
@@ -90,7 +90,7 @@ placed last ancestor b = record b {
 abbrev pub entries_at : Option ℕ → (n copy : ℕ) → List Entry → List Entry
 entries_at None n copy entries = handed_over n copy entries
 entries_at (Some after) n copy entries = if is_listed after (up_to_marker (without_entry n entries))
-    then moved_behind n copy after entries else handed_over n copy entries
+    then moved_after n copy after entries else handed_over n copy entries
 
 abbrev pub with_entry_at : Option ℕ → (n copy : ℕ) → Building → Building
 with_entry_at bookmark n copy b = record b { formatting = entries_at bookmark n copy b.formatting }

@@ -68,8 +68,8 @@ reconstructed b = all_made_anew (to_make b.stack b.formatting)
     (record b { formatting = made_already b.stack b.formatting })
 
 -- the same where the entries that come first, so many, stand already
-abbrev pub made_behind : ℕ → Building → Building
-made_behind left b = all_made_anew (take left b.formatting) (record b { formatting = drop left b.formatting })
+abbrev pub made_after : ℕ → Building → Building
+made_after left b = all_made_anew (take left b.formatting) (record b { formatting = drop left b.formatting })
 
 abbrev pub made_from : ℕ → Building → Building
-made_from index b = made_behind (length b.formatting - index) b
+made_from index b = made_after (length b.formatting - index) b

@@ -2,8 +2,8 @@
 -- them.
 use Rattle.std.specs.Prelude.{◌≡◌, ℕ, ◌⊎◌, ◌↔◌, Bool, true, List, ◌∷◌, ◌++◌, None, Some, suc}
 use Rattle.tree_formatting.specs.Alike.{AreFew}
-use Rattle.tree_formatting.specs.Entries.{Entry, before_marker, formatted, handed_over, is_listed, marker}
-use Rattle.tree_formatting.specs.Entries.{moved_behind, up_to_marker, without_entry}
+use Rattle.tree_formatting.specs.Entries.{Entry, before_marker, formatted, handed_over, is_listed, marker, moved_after}
+use Rattle.tree_formatting.specs.Entries.{up_to_marker, without_entry}
 use Rattle.tree_formatting.specs.Pushing.{pushed}
 use Rattle.tree_forest.specs.Changes.{detached, made, made_element, reparented, with_attributes}
 use Rattle.tree_forest.specs.Conditions.{CanPut, CanReparent, IsAbovePlace, IsPlace}
@@ -81,6 +81,6 @@ pub record Laws : Type 0 where
   pub few_handed : (n m : ℕ) (entries : List Entry) → AreFew entries → AreFew (handed_over n m entries)
   pub few_moved : (n m after : ℕ) (entries : List Entry) → AreFew entries →
       is_listed n (up_to_marker entries) ≡ true → is_listed after (up_to_marker (without_entry n entries)) ≡ true →
-      AreFew (moved_behind n m after entries)
+      AreFew (moved_after n m after entries)
   pub few_given : (n m : ℕ) (tag : Tag) (front back : List Entry) → AreFew (front ++ formatted n tag ∷ back) →
       AreFew (front ++ formatted m tag ∷ back)

@@ -11,7 +11,7 @@ pub record IsOpenAt {H : Type 0} (number : H → ℕ) (n : ℕ) (elements : List
   pub within : at < length elements
   pub is_there : is_in n (stack_of number elements) ≡ true
   pub before_it : stack_of number (take at elements) ≡ farther n (stack_of number elements)
-  pub behind_it : stack_of number (drop (suc at) elements) ≡ nearer n (stack_of number elements)
+  pub after_it : stack_of number (drop (suc at) elements) ≡ nearer n (stack_of number elements)
 
 -- the element that was opened first, where one is open
 abbrev pub IsFirstOpened : Option ℕ → List ℕ → Type 0

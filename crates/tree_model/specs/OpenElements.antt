@@ -1,6 +1,5 @@
 -- The stack of open elements (WHATWG HTML, 13.2.4.2), the current node first.
-use Rattle.std.specs.Prelude.{ℕ, Bool, false, true, List, [], ◌∷◌, Option, None, Some}
-use Rattle.std.specs.Prelude.{◌==◌, if◌then◌else◌}
+use Rattle.std.specs.Prelude.{[], ◌∷◌, ◌==◌, if◌then◌else◌, Bool, List, None, Option, Some, false, true, ℕ}
 use Rattle.tree_forest.specs.Forest.{Forest, name_of}
 use Rattle.tree_names.specs.Sets.{Elements, is_element_of}
 

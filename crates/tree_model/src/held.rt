@@ -1,6 +1,6 @@
 //! What is held beside the nodes.
-ghost use Rattle.std.specs.Prelude.{◌≡◌, ℕ, ◌<◌, List, [], ◌∷◌, ◌++◌, IfSome, None, OnErr, OnOk, false, length};
-ghost use Rattle.std.specs.Prelude.{IfOk, option_map, true};
+ghost use Rattle.std.specs.Prelude.{◌≡◌, ◌<◌, [], ◌∷◌, ◌++◌, IfOk, IfSome, List, None, OnErr, OnOk, false, length};
+ghost use Rattle.std.specs.Prelude.{option_map, true, ℕ};
 ghost use Rattle.tree_formatting.specs.Entries.{before_marker, entries_of, given, handed_over, marker, without_entry};
 ghost use Rattle.tree_formatting.specs.Pushing.{pushed};
 ghost use Rattle.tree_formatting.specs.declared.entry.FormatEntry.{FormatEntry};
@@ -14,12 +14,12 @@ ghost use Rattle.tree_model.specs.OpenAt.{IsFirstOpened, IsOpenAt};
 ghost use Rattle.tree_model.specs.OpenElements.{below_current, first_of};
 ghost use Rattle.tree_names.specs.Counts.{counts_of};
 
-use tree_formatting::FormattingList;
-use tree_forest::TreeSink;
 use html_lexemes::Tag;
-use tree_names::OpenCounts;
 use std::alloc::{AllocError, Global};
 use std::marker::Model;
+use tree_forest::TreeSink;
+use tree_formatting::FormattingList;
+use tree_names::OpenCounts;
 
 /// What is held beside the nodes (WHATWG HTML, 13.2.4): the stack of open elements, the list of active formatting
 /// elements, and whether foster parenting is on; and how many elements of each name are open.
@@ -282,8 +282,8 @@ impl<H: Copy> Held<H> {
         ensures err { OnErr result (self.new ≡ self.old) }
     {
         if let Some(after) = bookmark {
-            if self.formatting.stands_behind_marker(sink, after, element) {
-                return self.formatting.move_behind(sink, element, copy, after);
+            if self.formatting.stands_after_marker(sink, after, element) {
+                return self.formatting.move_after(sink, element, copy, after);
             }
         }
         self.formatting.hand_over(sink, element, copy);

@@ -2,8 +2,13 @@
 ghost use Rattle.tree_model.specs.Laws.{Laws};
 ghost use Rattle.tree_model.specs.Words.{Words};
 
+use tree_forest::{
+    attributes_keep_a_forest, elements_stay, how_many_nodes_there_are, making_keeps_a_forest,
+    putting_keeps_a_forest, reparenting_keeps_a_forest, taking_out_keeps_a_forest,
+    texts_side_by_side_are_one, what_stands_above_what, what_was_made_may_be_put,
+    what_was_not_named_stays, where_children_stand,
+};
 use tree_formatting::at_most_three_are_alike;
-use tree_forest::{attributes_keep_a_forest, elements_stay, how_many_nodes_there_are, making_keeps_a_forest, putting_keeps_a_forest, reparenting_keeps_a_forest, taking_out_keeps_a_forest, texts_side_by_side_are_one, what_stands_above_what, what_was_made_may_be_put, what_was_not_named_stays, where_children_stand};
 
 /// What is known of a forest and its changes.
 pub fn laws_of_forests()

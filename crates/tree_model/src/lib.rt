@@ -67,7 +67,7 @@
 //! functions over any `TreeSink` build pages by these calls, and in `RcDom` what they built is compared with lines
 //! written from the standard's words: texts, comments and attributes, paragraphs and buttons, a table's foster
 //! parent, what is popped, end tags, scopes, four formatting elements alike, modes, foreign elements; the calls of
-//! tree_formatting and tree_predicates too (but for `stands_behind_marker` and `give`).
+//! tree_formatting and tree_predicates too (but for `stands_after_marker` and `give`).
 //!
 //! `rt plant`: of 126 wrong bodies that it could judge all are refused, before the adoption agency was there, and
 //! of the 60 of that agency's files all; it could judge none of `has_open`, `in_scope`, `is_fostering`,

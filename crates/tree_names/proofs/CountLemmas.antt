@@ -1,7 +1,7 @@
 -- Counts of names, one by one.
-use Rattle.std.proofs.Common.{◌≡◌, ℕ, Bool, ◌+◌, ◌-◌, ◌<◌, ◌≤◌, slice_index_or, slice_set, refl, ◌||◌, true, false}
-use Rattle.std.proofs.Common.{if◌then◌else◌, List, [], ◌∷◌, ◌++◌, length, drop, bytes_eq, sym}
-use Rattle.std.proofs.Common.{None, ap, ap₂, subst, ◌∙◌, arith, zero, suc, length-drop, ◌==◌, ◌&&◌, ◌*◌, ◌%◌, map}
+use Rattle.std.proofs.Common.{◌≡◌, ◌+◌, ◌-◌, ◌<◌, ◌≤◌, ◌||◌, if◌then◌else◌, [], ◌∷◌, ◌++◌, ◌∙◌, ◌==◌, ◌&&◌, ◌*◌, ◌%◌}
+use Rattle.std.proofs.Common.{Bool, List, None, ap, ap₂, arith, bytes_eq, drop, false, length, length-drop, map, refl}
+use Rattle.std.proofs.Common.{slice_index_or, slice_set, subst, suc, sym, true, zero, ℕ}
 use Rattle.std.proofs.lemmas.Bool.{and_parts, eqb-false, eqb-true, false≢true, lt-ltb, ltb-true, or_parts}
 use Rattle.std.proofs.lemmas.Str.Ascii.{lowercase-lowercase}
 use Rattle.std.specs.Bool.{nat_lt}

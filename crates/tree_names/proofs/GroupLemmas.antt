@@ -1,6 +1,6 @@
 -- The groups of known names, and of others.
-use Rattle.std.proofs.Common.{◌≡◌, ℕ, Bool, true, false, not, ◌||◌, true≢false, List, [], ◌∷◌, map, slice_index_or}
-use Rattle.std.proofs.Common.{if◌then◌else◌, Option, None, Some, refl, sym, ap, subst, ◌∙◌}
+use Rattle.std.proofs.Common.{◌≡◌, ◌||◌, [], ◌∷◌, if◌then◌else◌, ◌∙◌, Bool, List, None, Option, Some, ap, false, map}
+use Rattle.std.proofs.Common.{not, refl, slice_index_or, subst, sym, true, true≢false, ℕ}
 use Rattle.std.specs.List.{list_all}
 use Rattle.std.proofs.lemmas.Bool.{and_parts}
 use denote.Enum.Declared.{tag_of}

@@ -1,6 +1,6 @@
 -- A name is looked for among words, one after the other.
-use Rattle.std.proofs.Common.{◌≡◌, ℕ, ◌+◌, ◌<◌, ◌≤◌, length-drop, slice_index_or, true, false, ◌||◌, IsTrue, List}
-use Rattle.std.proofs.Common.{◌∷◌, length, drop, IsUtf8, chars, bytes_eq, sym, ap, subst, ◌∙◌, arith}
+use Rattle.std.proofs.Common.{◌≡◌, ◌+◌, ◌<◌, ◌≤◌, ◌||◌, ◌∷◌, ◌∙◌, IsTrue, IsUtf8, List, ap, arith, bytes_eq, chars}
+use Rattle.std.proofs.Common.{drop, false, length, length-drop, slice_index_or, subst, sym, true, ℕ}
 use Rattle.std.specs.Borrow.{Bor}
 use Rattle.std.proofs.lemmas.Bool.{and_parts}
 use Rattle.std.proofs.lemmas.List.{drop_more, nil_from_length}

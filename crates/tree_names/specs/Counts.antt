@@ -1,7 +1,7 @@
 -- How many elements of each name are open (WHATWG HTML, 13.2.4.2): the names that tests of scope ask about have a count
 -- each, all others share 128.
-use Rattle.std.specs.Prelude.{ℕ, ◌+◌, ◌*◌, ◌%◌, Bool, false, List, [], ◌∷◌, ◌||◌, bytes_eq, codes, if◌then◌else◌, map}
-use Rattle.std.specs.Prelude.{zero, suc}
+use Rattle.std.specs.Prelude.{◌+◌, ◌*◌, ◌%◌, [], ◌∷◌, ◌||◌, if◌then◌else◌, Bool, List, bytes_eq, codes, false, map, suc}
+use Rattle.std.specs.Prelude.{zero, ℕ}
 use Rattle.std.specs.Bool.{nat_lt}
 use Rattle.std.specs.Char.{to_ascii_lowercase}
 use Rattle.std.specs.List.{list_all}

@@ -3,7 +3,8 @@ ghost use Rattle.std.specs.Prelude.{◌≡◌, ℕ, ◌<◌, ◌++◌, true, fal
 ghost use Rattle.html_lexemes.specs.declared.names.QualName.{QualName as SeenQualName};
 ghost use Rattle.html_lexemes.specs.declared.names.Namespace.TheVariants.{Html};
 ghost use Rattle.lex_base.specs.Known.{all_known, known_text};
-ghost use Rattle.tree_names.specs.Counts.{count_in, count_of, counts_of, has_counts, has_foreign, has_one, shared_count};
+ghost use Rattle.tree_names.specs.Counts.{count_in, count_of, counts_of, has_counts, has_foreign, has_one};
+ghost use Rattle.tree_names.specs.Counts.{shared_count};
 ghost use Rattle.tree_names.specs.Sets.{html_elements};
 ghost use Rattle.tree_names.specs.Wanted.{elements_of, one};
 

@@ -8,8 +8,8 @@ ghost use Rattle.tree_names.specs.ElementSets.{implied_end_tags, integration_poi
 ghost use Rattle.tree_names.specs.ElementSets.{math_ml_text_integration_points, math_ml_texts, raw_text_elements};
 ghost use Rattle.tree_names.specs.ElementSets.{scope_barriers, special_elements, svg_contents};
 ghost use Rattle.tree_names.specs.ElementSets.{svg_html_integration_points, table_body_context, table_cells};
-ghost use Rattle.tree_names.specs.ElementSets.{table_context, table_row_context, table_scope_barriers};
-ghost use Rattle.tree_names.specs.ElementSets.{table_sections, table_text_places, void_elements, with_foreign_barriers};
+ghost use Rattle.tree_names.specs.ElementSets.{table_context, table_row_context, table_scope_barriers, table_sections};
+ghost use Rattle.tree_names.specs.ElementSets.{table_text_places, void_elements, with_foreign_barriers};
 
 use crate::sets::{is_html_one_of, is_one_of};
 use crate::tables::{

@@ -1,6 +1,6 @@
 -- Attributes are looked through, one after the other.
-use Rattle.std.proofs.Common.{◌≡◌, ℕ, ◌+◌, ◌<◌, ◌≤◌, length-drop, slice_index_or, Bool, true, false, List, [], ◌∷◌}
-use Rattle.std.proofs.Common.{length, drop, None, Some, bytes_eq, sym, ap, ◌∙◌, arith, cond}
+use Rattle.std.proofs.Common.{◌≡◌, ◌+◌, ◌<◌, ◌≤◌, [], ◌∷◌, ◌∙◌, Bool, List, None, Some, ap, arith, bytes_eq, cond, drop}
+use Rattle.std.proofs.Common.{false, length, length-drop, slice_index_or, sym, true, ℕ}
 use Rattle.std.proofs.lemmas.List.{drop_more, nil_from_length}
 use Rattle.tree_names.specs.Sets.{is_one_of}
 use Rattle.html_lexemes.specs.declared.names.Attribute.{Attribute}

@@ -1,6 +1,6 @@
 -- Words are tried as beginnings of a text, one after the other.
-use Rattle.std.proofs.Common.{◌≡◌, ℕ, ◌+◌, ◌<◌, ◌≤◌, length-drop, slice_index_or, Bool, true, false, ◌||◌, List}
-use Rattle.std.proofs.Common.{length, drop, sym, ap, ◌∙◌, arith}
+use Rattle.std.proofs.Common.{◌≡◌, ◌+◌, ◌<◌, ◌≤◌, ◌||◌, ◌∙◌, Bool, List, ap, arith, drop, false, length, length-drop}
+use Rattle.std.proofs.Common.{slice_index_or, sym, true, ℕ}
 use Rattle.std.specs.Borrow.{Bor}
 use Rattle.std.proofs.lemmas.List.{drop_more, nil_from_length}
 use Rattle.tree_names.specs.Sets.{words_of}

@@ -1,7 +1,7 @@
 -- A text in lower case beside a word, character by character.
-use Rattle.std.proofs.Common.{◌≡◌, ◌≢◌, ℕ, ◌<◌, true, false, IsTrue, List, [], ◌∷◌, ◌++◌, length, take, drop, zero}
-use Rattle.std.proofs.Common.{suc, Option, Some, None, is_some, MatchOption, eqb, Bor, IsUtf8, chars, bytes_eq, refl}
-use Rattle.std.proofs.Common.{sym, ap, subst, ◌∙◌, arith, append_assoc, append-nil, encode_utf8}
+use Rattle.std.proofs.Common.{◌≡◌, ◌≢◌, ◌<◌, [], ◌∷◌, ◌++◌, ◌∙◌, Bor, IsTrue, IsUtf8, List, MatchOption, None, Option}
+use Rattle.std.proofs.Common.{Some, ap, append-nil, append_assoc, arith, bytes_eq, chars, drop, encode_utf8, eqb, false}
+use Rattle.std.proofs.Common.{is_some, length, refl, subst, suc, sym, take, true, zero, ℕ}
 use Rattle.std.specs.Bool.{nat_lt}
 use Rattle.std.specs.Char.{to_ascii_lowercase}
 use Rattle.std.specs.Str.{IsAscii}
@@ -85,11 +85,11 @@ module _ (text word walked left more : List ℕ) (h : IsSpelling text word walke
 
   pub spelling_differs : (w c : ℕ) (later rest : List ℕ) → more ≡ encode_utf8 w ++ later →
       left ≡ encode_utf8 c ++ rest → to_ascii_lowercase c ≢ w → begins_with (in_lower_case (chars text)) word ≡ false
-  spelling_differs w c later rest e f fails = not_begun (in_lower_case (chars text)) word (λ behind same.
-      fails (same_head (to_ascii_lowercase c) w (in_lower_case (chars rest)) (chars later ++ behind)
-      (append_cancel_left walked (to_ascii_lowercase c ∷ in_lower_case (chars rest)) (w ∷ chars later ++ behind)
-      (sym (text_on c rest f) ∙ same ∙ ap (λ l. l ++ behind) (word_on w later e)
-      ∙ append_assoc walked (w ∷ chars later) behind))))
+  spelling_differs w c later rest e f fails = not_begun (in_lower_case (chars text)) word (λ trailing same.
+      fails (same_head (to_ascii_lowercase c) w (in_lower_case (chars rest)) (chars later ++ trailing)
+      (append_cancel_left walked (to_ascii_lowercase c ∷ in_lower_case (chars rest)) (w ∷ chars later ++ trailing)
+      (sym (text_on c rest f) ∙ same ∙ ap (λ l. l ++ trailing) (word_on w later e)
+      ∙ append_assoc walked (w ∷ chars later) trailing))))
 
   pub spelling_more : (w c : ℕ) (later rest : List ℕ) → more ≡ encode_utf8 w ++ later → left ≡ encode_utf8 c ++ rest →
       to_ascii_lowercase c ≡ w → IsSpelling text word (walked ++ w ∷ []) rest later
@@ -106,15 +106,15 @@ module _ (text word walked left more : List ℕ) (h : IsSpelling text word walke
       (sym (h.word_is ∙ ap (λ l. walked ++ l) (nothing more none) ∙ append-nil walked))
 
 -- what follows a word says whether the text begins with it, and whether it is the word
-abbrev pub IsBehind : (text word : List ℕ) → Option (Bor (List ℕ)) → Type 0
-IsBehind text word r = MatchOption r (begins_with (in_lower_case text) word ≡ false)
+abbrev pub IsAfter : (text word : List ℕ) → Option (Bor (List ℕ)) → Type 0
+IsAfter text word r = MatchOption r (begins_with (in_lower_case text) word ≡ false)
     (λ rest. in_lower_case text ≡ word ++ in_lower_case (chars rest.now))
 
-pub nothing_behind : (text word : List ℕ) (r : Option (Bor (List ℕ))) → r ≡ None →
-    begins_with (in_lower_case text) word ≡ false → IsBehind text word r
-nothing_behind text word r e h = subst (IsBehind text word) (sym e) h
+pub nothing_after : (text word : List ℕ) (r : Option (Bor (List ℕ))) → r ≡ None →
+    begins_with (in_lower_case text) word ≡ false → IsAfter text word r
+nothing_after text word r e h = subst (IsAfter text word) (sym e) h
 
-pub begins : (text word : List ℕ) (r : Option (Bor (List ℕ))) → IsBehind text word r →
+pub begins : (text word : List ℕ) (r : Option (Bor (List ℕ))) → IsAfter text word r →
     is_some r ≡ begins_with (in_lower_case text) word
 begins text word None h = sym h
 begins text word (Some rest) h = sym (ap (λ l. begins_with l word) h ∙ begun word (in_lower_case (chars rest.now)))

@@ -1,6 +1,6 @@
 -- What an element's attributes say, letters of ASCII in either case alike (WHATWG Infra, 4.5).
-use Rattle.std.specs.Prelude.{ℕ, Bool, false, true, ◌&&◌, List, [], ◌∷◌, Option, None, Some, codes, bytes_eq, map}
-use Rattle.std.specs.Prelude.{if◌then◌else◌}
+use Rattle.std.specs.Prelude.{◌&&◌, [], ◌∷◌, if◌then◌else◌, Bool, List, None, Option, Some, bytes_eq, codes, false, map}
+use Rattle.std.specs.Prelude.{true, ℕ}
 use Rattle.std.specs.Char.{to_ascii_lowercase}
 use Rattle.tree_names.specs.Sets.{is_element_of, is_one_of}
 use Rattle.html_lexemes.specs.declared.names.Attribute.{Attribute}

@@ -1,13 +1,12 @@
 -- Which insertion mode the open elements ask for (WHATWG HTML, 13.2.4.1, "reset the insertion mode appropriately").
-use Rattle.std.specs.Prelude.{Bool, false, true, ◌&&◌, not, List, [], ◌∷◌, Option, None, Some, codes}
-use Rattle.std.specs.Prelude.{if◌then◌else◌}
+use Rattle.std.specs.Prelude.{◌&&◌, [], ◌∷◌, if◌then◌else◌, Bool, List, None, Option, Some, codes, false, not, true}
 use Rattle.tree_names.specs.ElementSets.{table_cells, table_sections}
 use Rattle.tree_names.specs.Sets.{is_element_of, is_html}
 use Rattle.html_lexemes.specs.declared.names.QualName.{QualName}
 use Rattle.tree_predicates.specs.declared.modes.InsertionMode.{InsertionMode}
-use Rattle.tree_predicates.specs.declared.modes.InsertionMode.TheVariants.{AfterHead, BeforeHead, InBody, InCaption, InCell}
-use Rattle.tree_predicates.specs.declared.modes.InsertionMode.TheVariants.{InColumnGroup, InFrameset, InHead, InRow, InTable}
-use Rattle.tree_predicates.specs.declared.modes.InsertionMode.TheVariants.{InTableBody}
+use Rattle.tree_predicates.specs.declared.modes.InsertionMode.TheVariants.{AfterHead, BeforeHead, InBody, InCaption}
+use Rattle.tree_predicates.specs.declared.modes.InsertionMode.TheVariants.{InCell, InColumnGroup, InFrameset, InHead}
+use Rattle.tree_predicates.specs.declared.modes.InsertionMode.TheVariants.{InRow, InTable, InTableBody}
 
 -- the first of some cases that holds
 abbrev pub first_case : List (Bool × Option InsertionMode) → Option InsertionMode

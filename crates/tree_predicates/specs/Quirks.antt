@@ -1,6 +1,6 @@
 -- The quirks mode that a doctype asks for (WHATWG HTML, 13.2.6.4.1, with a list of identifiers of its own).
-use Rattle.std.specs.Prelude.{ℕ, Bool, false, true, ◌||◌, ◌&&◌, not, List, [], ◌∷◌, Option, None, Some, codes, bytes_eq}
-use Rattle.std.specs.Prelude.{if◌then◌else◌, length, take}
+use Rattle.std.specs.Prelude.{◌||◌, ◌&&◌, [], ◌∷◌, if◌then◌else◌, Bool, List, None, Option, Some, bytes_eq, codes}
+use Rattle.std.specs.Prelude.{false, length, not, take, true, ℕ}
 use Rattle.html_lexemes.specs.declared.token.Doctype.{Doctype}
 use Rattle.tree_forest.specs.declared.sink.QuirksMode.{QuirksMode}
 use Rattle.tree_forest.specs.declared.sink.QuirksMode.TheVariants.{LimitedQuirks, NoQuirks, Quirks}

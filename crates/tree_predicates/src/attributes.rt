@@ -1,12 +1,13 @@
 //! What an element's attributes say.
 ghost use Rattle.std.specs.Prelude.{◌≡◌, codes, option_map, IsTrue};
 ghost use Rattle.tree_names.specs.Sets.{is_ascii_word, is_html};
-ghost use Rattle.tree_predicates.specs.Attributes.{html_encodings, is_hidden, is_html_annotation, is_value_of, value_of};
+ghost use Rattle.tree_predicates.specs.Attributes.{html_encodings, is_hidden, is_html_annotation, is_value_of};
+ghost use Rattle.tree_predicates.specs.Attributes.{value_of};
 
 use crate::foreign::is_annotation;
 use crate::words::{is_in_lower_case, is_word};
-use tree_forest::ElementFlags;
 use html_lexemes::{Attributes, QualName, Text};
+use tree_forest::ElementFlags;
 
 /// Whether an `input` with these attributes isn't shown: its `type` is `hidden`, in any ASCII case (WHATWG HTML,
 /// 13.2.6.4.7 and 13.2.6.4.9).

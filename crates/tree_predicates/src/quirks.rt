@@ -6,8 +6,8 @@ ghost use Rattle.tree_predicates.specs.Quirks.{begins, begins_with_one, is_named
 ghost use Rattle.tree_predicates.specs.Quirks.{quirks_of, quirky};
 
 use crate::words::{begins_in_lower_case, is_word};
-use tree_forest::QuirksMode;
 use html_lexemes::{Doctype, Text};
+use tree_forest::QuirksMode;
 
 /// The quirks mode that a doctype asks for: by its name, and by its identifiers with letters of ASCII in either case
 /// alike

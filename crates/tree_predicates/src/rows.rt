@@ -8,9 +8,10 @@ ghost use Rattle.tree_predicates.specs.Foreign.{breaks_out, stops_break_out, tak
 ghost use Rattle.tree_predicates.specs.Modes.{own_mode, reset_mode, root_mode};
 ghost use Rattle.tree_predicates.specs.Quirks.{quirks_of};
 ghost use Rattle.tree_predicates.specs.RowWords.{attribute, doctype, doctype_of, end, own, start, tag};
-ghost use Rattle.tree_predicates.specs.declared.modes.InsertionMode.TheVariants.{AfterHead, BeforeHead, InBody, InCaption};
-ghost use Rattle.tree_predicates.specs.declared.modes.InsertionMode.TheVariants.{InCell, InColumnGroup, InFrameset, InHead};
-ghost use Rattle.tree_predicates.specs.declared.modes.InsertionMode.TheVariants.{InRow, InTable, InTableBody, InTemplate};
+ghost use Rattle.tree_predicates.specs.declared.modes.InsertionMode.TheVariants.{AfterHead, BeforeHead, InBody};
+ghost use Rattle.tree_predicates.specs.declared.modes.InsertionMode.TheVariants.{InCaption, InCell, InColumnGroup};
+ghost use Rattle.tree_predicates.specs.declared.modes.InsertionMode.TheVariants.{InFrameset, InHead, InRow, InTable};
+ghost use Rattle.tree_predicates.specs.declared.modes.InsertionMode.TheVariants.{InTableBody, InTemplate};
 
 fn names_of_doctypes_of_rows()
     ensures html { quirks_of (doctype None None) ≡ NoQuirks }
@@ -120,7 +121,7 @@ fn attributes_of_rows()
     ensures no_type { is_hidden (attribute (codes "hidden") [] ∷ []) ≡ false }
     ensures first_type { is_hidden (attribute (codes "type") (codes "text")
         ∷ attribute (codes "type") (codes "hidden") ∷ []) ≡ false }
-    ensures behind_another { is_hidden (attribute (codes "id") [] ∷ attribute (codes "type") (codes "Hidden") ∷ [])
+    ensures after_another { is_hidden (attribute (codes "id") [] ∷ attribute (codes "type") (codes "Hidden") ∷ [])
         ≡ true }
     ensures text_html { is_html_annotation (math_ml (codes "annotation-xml"))
         (attribute (codes "encoding") (codes "TEXT/HTML") ∷ []) ≡ true }

@@ -25,7 +25,7 @@ pub fn is_in_lower_case(text: &str, word: &str) -> bool
 pub(crate) fn is_lower_case_of(word: &str, text: &str) -> bool
     ensures { result ≡ bytes_eq (in_lower_case (chars text.now)) (chars word.now) }
 {
-    match behind_in_lower_case(text, word) {
+    match after_in_lower_case(text, word) {
         Some(rest) => rest.is_empty(),
         None => false,
     }
@@ -36,11 +36,11 @@ pub(crate) fn begins_in_lower_case(text: &str, word: &str) -> bool
     requires { IsTrue (is_ascii_word word.now) }
     ensures { result ≡ begins_with (in_lower_case (chars text.now)) word.now }
 {
-    behind_in_lower_case(text, word).is_some()
+    after_in_lower_case(text, word).is_some()
 }
 
 // what follows a word, where a text in lower case begins with it
-fn behind_in_lower_case<'t>(text: &'t str, word: &str) -> Option<&'t str>
+fn after_in_lower_case<'t>(text: &'t str, word: &str) -> Option<&'t str>
     ensures value { MatchOption result (begins_with (in_lower_case (chars text.now)) (chars word.now) ≡ false)
         (λ rest. in_lower_case (chars text.now) ≡ chars word.now ++ in_lower_case (chars rest.now)) }
     ensures utf8 { IfSome result (λ rest. IsUtf8 rest.now) }

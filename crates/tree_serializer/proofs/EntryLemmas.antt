@@ -1,12 +1,9 @@
 -- Open entries: the list is kept with the innermost last, and seen with the innermost first.
-use Rattle.std.proofs.Common.{◌≡◌, ℕ, ◌==◌, Bool, true, false, List, [], ◌∷◌, ◌++◌, length, map, reverse, Option}
-use Rattle.std.proofs.Common.{if◌then◌else◌}
-use Rattle.std.proofs.Common.{take, ◌-◌}
-use Rattle.std.proofs.Common.{Some, refl, sym, ap, ◌∙◌, append-nil}
+use Rattle.std.proofs.Common.{◌≡◌, ◌==◌, [], ◌∷◌, ◌++◌, if◌then◌else◌, ◌-◌, ◌∙◌, Bool, List, Option, Some, ap}
+use Rattle.std.proofs.Common.{append-nil, false, length, map, refl, reverse, sym, take, true, ℕ}
 use Rattle.std.proofs.lemmas.List.{length-map, length-reverse, map-append, reverse-append}
 use Rattle.html_lexemes.specs.declared.names.QualName.{QualName}
-use Rattle.tree_serializer.specs.Entries.{IsClosed, IsOpened, IsWithin, entries_of, entry_of, is_silent_in}
-use Rattle.tree_serializer.specs.Entries.{parent_in}
+use Rattle.tree_serializer.specs.Entries.{IsClosed, IsOpened, IsWithin, entries_of, entry_of, is_silent_in, parent_in}
 use Rattle.tree_serializer.specs.Writing.{Entry, entry_below, nameless}
 use Rattle.tree_names.specs.ElementSets.{void_elements}
 use Rattle.tree_names.specs.Sets.{is_element_of}

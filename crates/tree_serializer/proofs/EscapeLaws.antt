@@ -1,16 +1,15 @@
 -- An escape emits its text, and holds no markup.
-use Rattle.std.proofs.Common.{◌≡◌, ℕ, ◌==◌, ◌&&◌, Bool, true, false, List, [], ◌∷◌, ◌++◌, drop, codes, Option, None}
-use Rattle.std.proofs.Common.{Some}
-use Rattle.std.proofs.Common.{if◌then◌else◌, refl, sym, ap, ◌∙◌, arith}
+use Rattle.std.proofs.Common.{◌≡◌, ◌==◌, ◌&&◌, [], ◌∷◌, ◌++◌, if◌then◌else◌, ◌∙◌, Bool, List, None, Option, Some, ap}
+use Rattle.std.proofs.Common.{arith, codes, drop, false, refl, sym, true, ℕ}
 use Rattle.std.proofs.lemmas.Bool.Decides.{nat_tests}
 use Rattle.std.proofs.lemmas.Option.{none-some}
 use Rattle.tree_forest.specs.Forest.{is_in}
 use Rattle.tree_serializer.specs.Escapes.{escaped, escaped_character}
 
 -- the first character of an escaped text, and what follows its escape
-abbrev behind_ampersand : List ℕ → Option (ℕ × List ℕ)
-behind_ampersand [] = None
-behind_ampersand (y ∷ ys) = if y == 97 then Some (38, drop 3 ys)
+abbrev after_ampersand : List ℕ → Option (ℕ × List ℕ)
+after_ampersand [] = None
+after_ampersand (y ∷ ys) = if y == 97 then Some (38, drop 3 ys)
     else if y == 110 then Some (160, drop 4 ys)
     else if y == 108 then Some (60, drop 2 ys)
     else if y == 103 then Some (62, drop 2 ys)
@@ -18,7 +17,7 @@ behind_ampersand (y ∷ ys) = if y == 97 then Some (38, drop 3 ys)
 
 abbrev first_escaped : List ℕ → Option (ℕ × List ℕ)
 first_escaped [] = None
-first_escaped (x ∷ xs) = if x == 38 then behind_ampersand xs else Some (x, xs)
+first_escaped (x ∷ xs) = if x == 38 then after_ampersand xs else Some (x, xs)
 
 is_number : (c n : ℕ) → (c == n) ≡ true → c ≡ n
 is_number c n h = grind (arith, nat_tests)
@@ -45,7 +44,7 @@ first_by v c rest false false true b62 b34 p q r s t = ap (λ d. Some (d, rest))
 first_by v c rest false false false true b34 p q r s t = ap (λ d. Some (d, rest)) (sym (is_number c 62 s))
 first_by v c rest false false false false true p q r s t = ap (λ d. Some (d, rest)) (sym (is_quote v c t))
 first_by v c rest false false false false false p q r s t =
-    ap (λ b. if b then behind_ampersand rest else Some (c, rest)) p
+    ap (λ b. if b then after_ampersand rest else Some (c, rest)) p
 
 first_is : (in_value : Bool) (c : ℕ) (rest : List ℕ)
     → first_escaped (escaped_character in_value c ++ rest) ≡ Some (c, rest)

@@ -1,10 +1,10 @@
 -- What is escaped of a text, run by run.
-use Rattle.std.proofs.Common.{◌≡◌, ℕ, Bool, true, false, List, [], ◌∷◌, ◌++◌, length, take, drop, Option, None}
-use Rattle.std.proofs.Common.{IsUtf8, refl, sym, ap, subst, ◌∙◌, append_assoc, take-append-drop, arith}
+use Rattle.std.proofs.Common.{◌≡◌, [], ◌∷◌, ◌++◌, ◌∙◌, Bool, IsUtf8, List, None, Option, ap, append_assoc, arith, drop}
+use Rattle.std.proofs.Common.{false, length, refl, subst, sym, take, take-append-drop, true, ℕ}
 use Rattle.std.proofs.lemmas.Bool.Decides.{nat_tests}
 use Rattle.std.proofs.lemmas.List.{length-append}
-use Rattle.std.proofs.lemmas.Str.{chars_from_encodes, chars_past_char, chars-append, IsUtf8-take, IsUtf8-drop}
-use Rattle.std.proofs.lemmas.Str.{encode_same, length-encode, len_utf8_bounds}
+use Rattle.std.proofs.lemmas.Str.{IsUtf8-drop, IsUtf8-take, chars-append, chars_from_encodes, chars_past_char}
+use Rattle.std.proofs.lemmas.Str.{encode_same, len_utf8_bounds, length-encode}
 use Rattle.std.specs.Char.{char_set_contains, encode_utf8}
 use Rattle.std.specs.Str.{NoCharPasses, NonePass, chars}
 use Rattle.std.specs.Str.Pattern.{FindsBy, MatchBeginsAt}
@@ -83,21 +83,21 @@ not_at_end v set bs rest i same found at none =
     let b = len_utf8_bounds hit.0 in
     omega arith
 
-pub mark_found : (in_value : Bool) (set bs run rest behind reference : List ℕ) (i c : ℕ) → IsUtf8 bs
+pub mark_found : (in_value : Bool) (set bs run rest trailing reference : List ℕ) (i c : ℕ) → IsUtf8 bs
     → set ≡ marks in_value → MatchBeginsAt (FindsOneOf set) bs i → run ≡ take i bs → rest ≡ drop i bs
-    → rest ≡ encode_utf8 c ++ behind
+    → rest ≡ encode_utf8 c ++ trailing
     → ((v : Bool) → is_mark v c ≡ true → chars reference ≡ escaped_character v c)
-    → escaped in_value (chars bs) ≡ chars run ++ (chars reference ++ escaped in_value (chars behind))
-mark_found v set bs run rest behind reference i c u same found is_run is_rest at is =
+    → escaped in_value (chars bs) ≡ chars run ++ (chars reference ++ escaped in_value (chars trailing))
+mark_found v set bs run rest trailing reference i c u same found is_run is_rest at is =
     let all = found.1 (is_mark v) (λ c. ap (λ l. char_set_contains l c) same) in
     let hit = all.1 in
-    let one = encode_same c hit.0 behind (drop found.0 bs) (sym at ∙ is_rest ∙ hit.2.split) in
+    let one = encode_same c hit.0 trailing (drop found.0 bs) (sym at ∙ is_rest ∙ hit.2.split) in
     let mark : is_mark v c ≡ true = ap (is_mark v) one.0 ∙ hit.1 in
     let front : IsUtf8 (take i bs) = IsUtf8-take bs i u found.3 in
     let back : IsUtf8 (drop i bs) = IsUtf8-drop bs i u found.3 in
     let plain = plain_text v (take i bs) front all.0 in
     let cut = ap chars (sym (take-append-drop i bs)) ∙ chars-append (take i bs) (drop i bs) front
-    ∙ ap (λ l. chars (take i bs) ++ l) (chars_past_char (drop i bs) behind c back (sym is_rest ∙ at)) in
-    ap (escaped v) cut ∙ escaped-append v (chars (take i bs)) (c ∷ chars behind)
-    ∙ ap (λ l. l ++ (escaped_character v c ++ escaped v (chars behind))) (plain ∙ ap chars (sym is_run))
-    ∙ ap (λ l. chars run ++ (l ++ escaped v (chars behind))) (sym (is v mark))
+    ∙ ap (λ l. chars (take i bs) ++ l) (chars_past_char (drop i bs) trailing c back (sym is_rest ∙ at)) in
+    ap (escaped v) cut ∙ escaped-append v (chars (take i bs)) (c ∷ chars trailing)
+    ∙ ap (λ l. l ++ (escaped_character v c ++ escaped v (chars trailing))) (plain ∙ ap chars (sym is_run))
+    ∙ ap (λ l. chars run ++ (l ++ escaped v (chars trailing))) (sym (is v mark))

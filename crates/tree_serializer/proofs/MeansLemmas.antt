@@ -1,17 +1,17 @@
 -- What a call is said to mean, from what was found, written and opened.
-use Rattle.std.proofs.Common.{◌≡◌, ℕ, Bool, true, false, List, [], ◌∷◌, Option, None, Some, refl, sym, ap, subst, ◌∙◌}
-use Rattle.std.proofs.Common.{if◌then◌else◌}
+use Rattle.std.proofs.Common.{◌≡◌, [], ◌∷◌, ◌∙◌, if◌then◌else◌, Bool, List, None, Option, Some, ap, false, refl, subst}
+use Rattle.std.proofs.Common.{sym, true, ℕ}
 use Rattle.std.specs.Prelude.{Result, Err}
 use Rattle.html_lexemes.specs.declared.names.Attribute.{Attribute}
 use Rattle.html_lexemes.specs.declared.names.QualName.{QualName}
-use Rattle.tree_serializer.specs.Calls.{Call, doctype_of, done, finish, instruction_of, refused, remark}
-use Rattle.tree_serializer.specs.Calls.{reply_of, start, text_run}
+use Rattle.tree_serializer.specs.Calls.{Call, doctype_of, done, finish, instruction_of, refused, remark, reply_of}
+use Rattle.tree_serializer.specs.Calls.{start, text_run}
 use Rattle.tree_serializer.specs.Entries.{IsClosed, IsOpened, IsWithin, is_silent_in, name_in, parent_in}
 use Rattle.tree_serializer.specs.Escapes.{comment_text, doctype_text, end_text, escaped, instruction_text, start_text}
 use Rattle.tree_serializer.specs.Parts.{writing}
 use Rattle.tree_serializer.specs.Walks.{is_raw, run_text}
-use Rattle.tree_serializer.specs.Writing.{Entry, Grows, GrowsPart, IsCut, IsWritten, Means, Writing}
-use Rattle.tree_serializer.specs.Writing.{alone, entry_below, nameless, no_parent, outcome, within, writes}
+use Rattle.tree_serializer.specs.Writing.{Entry, Grows, GrowsPart, IsCut, IsWritten, Means, Writing, alone, entry_below}
+use Rattle.tree_serializer.specs.Writing.{nameless, no_parent, outcome, within, writes}
 use Rattle.tree_serializer.specs.declared.fault.SerializeFault.{SerializeFault}
 use Rattle.tree_serializer.specs.declared.fault.SerializeFault.TheVariants.{Memory, NoParent, Write}
 use Rattle.tree_serializer.proofs.GrowthLemmas.{grows_none}

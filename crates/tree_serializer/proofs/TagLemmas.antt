@@ -1,6 +1,6 @@
 -- The texts of tags, piece by piece as they are written.
-use Rattle.std.proofs.Common.{◌≡◌, ℕ, true, List, [], ◌∷◌, ◌++◌, ◌+◌, ◌<◌, drop, get_or, length, codes, refl, ap, ◌∙◌}
-use Rattle.std.proofs.Common.{add-one, append_assoc, drop-cons, suc, sym}
+use Rattle.std.proofs.Common.{◌≡◌, [], ◌∷◌, ◌++◌, ◌+◌, ◌<◌, ◌∙◌, List, add-one, ap, append_assoc, codes, drop}
+use Rattle.std.proofs.Common.{drop-cons, get_or, length, refl, suc, sym, true, ℕ}
 use Rattle.std.specs.Prelude.{Option}
 use Rattle.std.specs.Str.{chars}
 use Rattle.html_lexemes.specs.declared.names.Attribute.{Attribute}

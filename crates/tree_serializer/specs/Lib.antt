@@ -7,7 +7,7 @@ pub mod Marks
 pub mod Openings
 pub mod Parts
 pub mod Seen
-pub mod Told
+pub mod Emitted
 pub mod Walked
 pub mod Walks
 pub mod Writing

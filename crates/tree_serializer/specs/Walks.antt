@@ -1,8 +1,8 @@
--- The walk of a forest (WHATWG HTML, 13.3, "serializing HTML fragments"): what it emits a serializer, and what is
+-- The walk of a forest (WHATWG HTML, 13.3, "serializing HTML fragments"): what it gives a serializer, and what is
 -- written.
 -- A template's contents stand in the place of its children. A forest of so many nodes is at most so many deep.
-use Rattle.std.specs.Prelude.{ℕ, zero, suc, ◌||◌, ◌&&◌, Bool, false, List, [], ◌∷◌, ◌++◌, Option, None, Some}
-use Rattle.std.specs.Prelude.{codes, if◌then◌else◌}
+use Rattle.std.specs.Prelude.{◌||◌, ◌&&◌, [], ◌∷◌, ◌++◌, if◌then◌else◌, Bool, List, None, Option, Some, codes, false}
+use Rattle.std.specs.Prelude.{suc, zero, ℕ}
 use Rattle.tree_forest.specs.Forest.{Forest, Kind, children_at, comment, contents_of, doctype, document, element}
 use Rattle.tree_forest.specs.Forest.{instruction, kind_at, nodes, text}
 use Rattle.html_lexemes.specs.declared.names.QualName.{QualName}

@@ -10,8 +10,8 @@ ghost use Rattle.tree_names.specs.Sets.{is_element_of};
 use crate::fault::SerializeFault;
 use crate::options::TraversalScope;
 use html_lexemes::QualName;
-use tree_names::{has_raw_text, is_html, is_void};
 use std::alloc::Global;
+use tree_names::{has_raw_text, is_html, is_void};
 
 // an open entry: the element's name, where it has one; where it is silent, nothing is written within it
 #[derive(Drop)]

@@ -40,7 +40,7 @@ fn next_escaped(text: &str, in_value: bool) -> Option<(&str, &'static str, &str)
         ≡ chars r.0.now ++ (chars r.1.now ++ escaped in_value (chars r.2.now))) }
     ensures run { IfSome result (λ r. IsUtf8 r.0.now) }
     ensures reference { IfSome result (λ r. IsUtf8 r.1.now) }
-    ensures behind { IfSome result (λ r. IsUtf8 r.2.now) }
+    ensures trailing { IfSome result (λ r. IsUtf8 r.2.now) }
     ensures shorter { IfSome result (λ r. length r.2.now < length text.now) }
 {
     let at = text.find(marks(in_value))?;
@@ -64,10 +64,10 @@ pub(crate) fn write_escaped<W: ByteWriter>(
     ensures stays { W.has_failed writer.old ≡ true → W.has_failed writer.new ≡ true }
 {
     let mut rest = text;
-    'runs: while let Some((run, reference, behind)) = next_escaped(rest, in_value) {
+    'runs: while let Some((run, reference, trailing)) = next_escaped(rest, in_value) {
         write_text(writer, run)?;
         write_text(writer, reference)?;
-        rest = behind;
+        rest = trailing;
     }
     write_text(writer, rest)
 }

@@ -1,6 +1,6 @@
 //! What is emitted of a tree.
-ghost use Rattle.tree_serializer.specs.Calls.{Call, Reply, doctype_of, finish, instruction_of, remark, reply_of};
-ghost use Rattle.tree_serializer.specs.Calls.{start, text_run};
+ghost use Rattle.tree_serializer.specs.Calls.{Call, Reply, doctype_of, finish, instruction_of, remark, reply_of, start};
+ghost use Rattle.tree_serializer.specs.Calls.{text_run};
 ghost use Rattle.std.specs.Prelude.{chars};
 
 use crate::fault::SerializeFault;

@@ -1,7 +1,7 @@
 //! Tags, comments, doctypes and instructions, written (WHATWG HTML, 13.3).
 ghost use Rattle.std.specs.Prelude.{◌≡◌, ◌++◌, true, chars, OnErr, OnOk};
-ghost use Rattle.tree_serializer.specs.Escapes.{attribute_text, attributes_text, comment_text, doctype_text};
-ghost use Rattle.tree_serializer.specs.Escapes.{end_text, instruction_text, start_text};
+ghost use Rattle.tree_serializer.specs.Escapes.{attribute_text, attributes_text, comment_text, doctype_text, end_text};
+ghost use Rattle.tree_serializer.specs.Escapes.{instruction_text, start_text};
 ghost use Rattle.tree_serializer.specs.Writing.{Grows, GrowsPart};
 
 use crate::escape::write_escaped;

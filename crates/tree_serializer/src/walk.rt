@@ -2,7 +2,7 @@
 ghost use Rattle.std.specs.Prelude.{ℕ};
 ghost use Rattle.tree_forest.specs.Forest.{Forest};
 ghost use Rattle.tree_serializer.specs.Calls.{reply_of};
-ghost use Rattle.tree_serializer.specs.Told.{IsTold};
+ghost use Rattle.tree_serializer.specs.Emitted.{IsEmitted};
 ghost use Rattle.tree_serializer.specs.Walks.{calls_of};
 
 use crate::fault::SerializeFault;
@@ -16,7 +16,7 @@ pub trait Serialize {
 
     ghost node: { Self → ℕ };
 
-    /// Tells the node, or what stands in it alone (WHATWG HTML, 13.3): to the end, up to the first call that is
+    /// Emits the node, or what stands in it alone (WHATWG HTML, 13.3): to the end, up to the first call that is
     /// refused, whose fault is returned, or as far as memory is found.
     fn serialize<S: Serializer>(
         &self,
@@ -24,6 +24,6 @@ pub trait Serialize {
         serializer: &mut S,
         scope: &TraversalScope,
     ) -> Result<(), SerializeFault>
-        ensures { IsTold S.means (S.seen serializer.old) (calls_of scope.now (node self.now) (forest self.now))
+        ensures { IsEmitted S.means (S.seen serializer.old) (calls_of scope.now (node self.now) (forest self.now))
             (reply_of result) (S.seen serializer.new) };
 }

@@ -40,12 +40,12 @@ pub fn serialize<W: ByteWriter, T: Serialize>(
         makes_parents: create_missing_parent,
         entries,
     };
-    let told = node.serialize(alloc, &mut serializer, &traversal_scope);
+    let emitted = node.serialize(alloc, &mut serializer, &traversal_scope);
     let LentSerializer {
         writer: LentWriter(_lent),
         scripting: _,
         makes_parents: _,
         entries: _entries,
     } = serializer;
-    told
+    emitted
 }

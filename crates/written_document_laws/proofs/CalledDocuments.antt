@@ -1,6 +1,6 @@
 -- The walk of a document's tree emits the document.
-use Rattle.std.proofs.Common.{◌≡◌, ℕ, zero, suc, ◌+◌, ◌≤◌, List, [], ◌∷◌, ◌++◌, length, codes}
-use Rattle.std.proofs.Common.{Option, None, Some, refl, ap, ◌∙◌, append_assoc, append-nil, arith}
+use Rattle.std.proofs.Common.{◌≡◌, ◌+◌, ◌≤◌, [], ◌∷◌, ◌++◌, ◌∙◌, List, None, Option, Some, ap, append-nil, append_assoc}
+use Rattle.std.proofs.Common.{arith, codes, length, refl, suc, zero, ℕ}
 use Rattle.tree_forest.specs.Forest.{Forest, Node, children_at, document, element_of, node_at, text}
 use Rattle.html_lexemes.specs.declared.names.QualName.{QualName}
 use Rattle.tree_serializer.specs.Calls.{Call, doctype_of, finish, start, text_run}
@@ -10,7 +10,7 @@ use Rattle.tree_serializer.specs.declared.options.TraversalScope.TheVariants.{Ch
 use Rattle.document_laws.specs.Contents.{Content, none, say, span}
 use Rattle.document_laws.specs.Planted.{listed, node_of_element, of_html, roots, size}
 use Rattle.written_document_laws.proofs.WalkedDocuments.{StandsAs, body_stands, length_listed}
-use Rattle.written_document_laws.specs.Tellings.{calls_and, document_calls}
+use Rattle.written_document_laws.specs.Emissions.{calls_and, document_calls}
 use Rattle.written_document_laws.specs.Trees.{body_number, doctype_node, head_nodes, whole_tree}
 
 module _ (f : Forest) where

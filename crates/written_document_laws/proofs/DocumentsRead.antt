@@ -1,10 +1,10 @@
 -- What is written of a document is read back as its items.
-use Rattle.std.proofs.Common.{◌≡◌, ℕ, Bool, true, false, List, [], ◌∷◌, ◌++◌, codes, Option, None, Some, if◌then◌else◌}
-use Rattle.std.proofs.Common.{fold, refl, sym, ap, subst, ◌∙◌, append_assoc, append-nil}
+use Rattle.std.proofs.Common.{◌≡◌, [], ◌∷◌, ◌++◌, if◌then◌else◌, ◌∙◌, Bool, List, None, Option, Some, ap, append-nil}
+use Rattle.std.proofs.Common.{append_assoc, codes, false, fold, refl, subst, sym, true, ℕ}
 use Rattle.document_laws.specs.Escaped.{KnowsEscapes}
 use Rattle.token_grammar.specs.Items.{Item, characters, end_of_file, tag}
 use Rattle.token_grammar.specs.Meaning.{Meaning}
-use Rattle.token_grammar.specs.Modes.{mode_behind}
+use Rattle.token_grammar.specs.Modes.{next_mode}
 use Rattle.token_grammar.specs.Reading.{IsLawful, Reading, ends}
 use Rattle.lex_base.specs.References.{References}
 use Rattle.written_document_laws.proofs.ReadBack.{items_read}
@@ -23,8 +23,7 @@ use Rattle.written_document_laws.proofs.WrittenTags.{end_tag, start_tag}
 use Rattle.written_document_laws.specs.Documents.{AreRepliedTo, HoldsNoNul, IsTitleWithout, content_text, document_text}
 use Rattle.written_document_laws.specs.Documents.{is_void, title_text}
 use Rattle.written_document_laws.specs.Written.{AreAttributes, AreReadBack, IsTagName, closes, declares, ends_text}
-use Rattle.written_document_laws.specs.Written.{items_text, mode_after_all, opens, ordinary, rcdata_of}
-use Rattle.written_document_laws.specs.Written.{text}
+use Rattle.written_document_laws.specs.Written.{items_text, mode_after_all, opens, ordinary, rcdata_of, text}
 
 -- ---- the tokens of a document, but for the end of the file
 
@@ -89,13 +88,13 @@ tokens_text (span name attributes kids rest) more h =
     let opening : List ℕ = start_text (of_html name) attributes in
     let closing : List ℕ = if is_void name then [] else end_text (of_html name) in
     let inner : List ℕ = if is_void name then [] else content_text kids ++ end_text (of_html name) in
-    let behind : List ℕ = content_text rest ++ items_text more in
+    let trailing : List ℕ = content_text rest ++ items_text more in
     ap (λ l. opening ++ l)
     (tokens_text kids (ended name (tokens_and rest more)) h.1.0
     ∙ ap (λ l. content_text kids ++ l) (ended_text name (tokens_and rest more) (is_void name)
     ∙ ap (λ l. closing ++ l) (tokens_text rest more h.1.1))
-    ∙ sym (append_assoc (content_text kids) closing behind)
-    ∙ ap (λ l. l ++ behind) (no_kids name kids (is_void name) h.0.void)
+    ∙ sym (append_assoc (content_text kids) closing trailing)
+    ∙ ap (λ l. l ++ trailing) (no_kids name kids (is_void name) h.0.void)
     ∙ sym (append_assoc inner (content_text rest) (items_text more)))
     ∙ sym (append_assoc opening (inner ++ content_text rest) (items_text more))
 
@@ -135,7 +134,7 @@ module _ {A H : Type 0} (means : Meaning A H) where
       let answered : means.reply state (tag t) ≡ Continue = replied.0
       ∙ ap (λ b. let r : TokenSinkResult H = if b then RawData Rcdata else Continue in r) no_title in (
         opens last name attributes n a f,
-        subst (λ r. AreReadBack means (mode_behind (ordinary last) t r) (means.step state (tag t)) more) (sym answered)
+        subst (λ r. AreReadBack means (next_mode (ordinary last) t r) (means.step state (tag t)) more) (sym answered)
             (further (Some name) (means.step state (tag t)) replied.1),
       )
 
@@ -143,7 +142,7 @@ module _ {A H : Type 0} (means : Meaning A H) where
       ReadsOn more → AreRepliedTo means state (end_of name ∷ more) → ReadFrom last state (end_of name ∷ more)
   closed_read last state name more n further replied = (
     closes last name n,
-    subst (λ r. AreReadBack means (mode_behind (ordinary last) (end_tag name) r)
+    subst (λ r. AreReadBack means (next_mode (ordinary last) (end_tag name) r)
         (means.step state (tag (end_tag name)))
         more) (sym replied.0) (further last (means.step state (tag (end_tag name))) replied.1),
   )
@@ -178,7 +177,7 @@ module _ {A H : Type 0} (means : Meaning A H) where
   in_title state more further replied =
       let t = end_tag (codes "title") in (
         ends_text (codes "title") title_name refl,
-        subst (λ r. AreReadBack means (mode_behind (rcdata_of (codes "title")) t r) (means.step state (tag t)) more)
+        subst (λ r. AreReadBack means (next_mode (rcdata_of (codes "title")) t r) (means.step state (tag t)) more)
             (sym replied.0) (further (Some (codes "title")) (means.step state (tag t)) replied.1),
       )
 
@@ -197,7 +196,7 @@ module _ {A H : Type 0} (means : Meaning A H) where
   title_reads (Some title) more h further = λ last state replied.
       let t = start_tag (codes "title") [] in (
         opens last (codes "title") [] title_name tt refl,
-        subst (λ r. AreReadBack means (mode_behind (ordinary last) t r) (means.step state (tag t))
+        subst (λ r. AreReadBack means (next_mode (ordinary last) t r) (means.step state (tag t))
             (text_tokens title (end_of (codes "title") ∷ more))) (sym replied.0)
             (title_within title (means.step state (tag t)) more h further replied.1),
       )
@@ -222,22 +221,22 @@ module _ {A H : Type 0} (means : Meaning A H) where
       let body : IsTagName (codes "body") = record { begins = refl; goes_on = refl; lower = refl } in
       let ends : List Item = end_of (codes "body") ∷ end_of (codes "html") ∷ [] in
       let within : List Item = tokens_and content ends in
-      let behind : List Item = end_of (codes "head") ∷ start_of (codes "body") [] ∷ within in
+      let trailing : List Item = end_of (codes "head") ∷ start_of (codes "body") [] ∷ within in
       let at_end : ReadsOn ends =
       page_closes (codes "body") (end_of (codes "html") ∷ []) body (page_closes (codes "html") [] html nothing_reads) in
-      let at_body : ReadsOn behind =
+      let at_body : ReadsOn trailing =
       page_closes (codes "head") (start_of (codes "body") [] ∷ within) head
       (page_opens (codes "body") within body refl (content_reads content ends k named at_end)) in
-      let at_title : ReadsOn (title_tokens title behind) = title_reads title behind h at_body in
-      let at_html : ReadsOn (start_of (codes "html") [] ∷ start_of (codes "head") [] ∷ title_tokens title behind) =
-      page_opens (codes "html") (start_of (codes "head") [] ∷ title_tokens title behind) html refl
-      (page_opens (codes "head") (title_tokens title behind) head refl at_title) in
+      let at_title : ReadsOn (title_tokens title trailing) = title_reads title trailing h at_body in
+      let at_html : ReadsOn (start_of (codes "html") [] ∷ start_of (codes "head") [] ∷ title_tokens title trailing) =
+      page_opens (codes "html") (start_of (codes "head") [] ∷ title_tokens title trailing) html refl
+      (page_opens (codes "head") (title_tokens title trailing) head refl at_title) in
       (declares last, at_html last (means.step state html_doctype) replied.1)
 
-fold_behind : {A : Type 0} (f : A → Item → A) (s : A) (xs ys : List Item) → fold f s (xs ++ ys)
+fold_after : {A : Type 0} (f : A → Item → A) (s : A) (xs ys : List Item) → fold f s (xs ++ ys)
     ≡ fold f (fold f s xs) ys
-fold_behind f s [] ys = refl
-fold_behind f s (x ∷ xs) ys = fold_behind f (f s x) xs ys
+fold_after f s [] ys = refl
+fold_after f s (x ∷ xs) ys = fold_after f (f s x) xs ys
 
 module _ {A H : Type 0} (means : Meaning A H) where
   replied_front : (state : A) (front back : List Item) → AreRepliedTo means state (front ++ back) →
@@ -264,6 +263,6 @@ module _ {A H : Type 0} (means : Meaning A H) where
       items_read table knows means lawful (ordinary last) state items [] final are
       (ends (mode_after_all means (ordinary last) state items) (fold means.step state items) [] final refl refl) in
       subst (λ f. Reading table means (ordinary last) state (document_text title content) f)
-      (sym (fold_behind means.step state items ys) ∙ ap (fold means.step state) (items_are title content))
+      (sym (fold_after means.step state items ys) ∙ ap (fold means.step state) (items_are title content))
       (subst (λ t. Reading table means (ordinary last) state t final)
       (append-nil (items_text items) ∙ document_items_text title content readable) whole)

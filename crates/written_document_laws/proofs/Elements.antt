@@ -1,7 +1,6 @@
 -- What a document holds is written as it is read: names, attributes and texts.
-use Rattle.std.proofs.Common.{◌≡◌, ℕ, Bool, true, false, not, ◌&&◌, ◌||◌, List, [], ◌∷◌, codes, Some, refl, sym, ap}
-use Rattle.std.proofs.Common.{subst}
-use Rattle.std.proofs.Common.{◌∙◌}
+use Rattle.std.proofs.Common.{◌≡◌, ◌&&◌, ◌||◌, [], ◌∷◌, ◌∙◌, Bool, List, Some, ap, codes, false, not, refl, subst, sym}
+use Rattle.std.proofs.Common.{true, ℕ}
 use Rattle.std.proofs.lemmas.Slice.Eq.{bytes_eq-Decides}
 use Rattle.std.specs.List.{list_all}
 use Rattle.std.specs.Str.{bytes_eq}
@@ -13,8 +12,8 @@ use Rattle.html_lexemes.specs.declared.names.Attribute.{Attribute}
 use Rattle.tree_serializer.specs.Walks.{is_raw}
 use Rattle.tree_names.specs.ElementSets.{raw_text_elements, void_elements}
 use Rattle.tree_names.specs.Sets.{is_element_of, is_html, is_one_of}
-use Rattle.document_laws.specs.Contents.{Content, HasOne, Inline, IsBlocks, IsInline, IsInlines, marks, none, say}
-use Rattle.document_laws.specs.Contents.{span, texts_of_blocks}
+use Rattle.document_laws.specs.Contents.{Content, HasOne, Inline, IsBlocks, IsInline, IsInlines, marks, none, say, span}
+use Rattle.document_laws.specs.Contents.{texts_of_blocks}
 use Rattle.document_laws.specs.Contents as kinds
 use Rattle.document_laws.specs.Planted.{of_html}
 use Rattle.written_document_laws.specs.Documents.{AreWithout, IsWithout, is_void}
@@ -145,10 +144,10 @@ inline_named kinds.line_break linked name attributes kids h = subst IsElementNam
 inline_named kinds.mark linked name attributes kids h = (mark_named name h.0).0
 inline_named kinds.link linked name attributes kids h = subst IsElementName (sym h.0) named_a.0
 
-inlines_named : (linked behind : Bool) (content : Content) → IsInlines linked behind content → AreNamed content
-inlines_named linked behind _ (kinds.nothing _ _) = tt
-inlines_named linked behind _ (kinds.text _ c cs rest is) = inlines_named linked true rest is
-inlines_named linked behind _ (kinds.inline _ _ kind name attributes kids rest is inner further) = (
+inlines_named : (linked trailing : Bool) (content : Content) → IsInlines linked trailing content → AreNamed content
+inlines_named linked trailing _ (kinds.nothing _ _) = tt
+inlines_named linked trailing _ (kinds.text _ c cs rest is) = inlines_named linked true rest is
+inlines_named linked trailing _ (kinds.inline _ _ kind name attributes kids rest is inner further) = (
   inline_named kind linked name attributes kids is,
   (inlines_named _ false kids inner, inlines_named linked false rest further),
 )
@@ -213,11 +212,11 @@ inline_element kinds.link linked name attributes kids h without = record {
   void = never (is_void name) kids (ap is_void h.0);
 }
 
-inlines_readable : (linked behind : Bool) (content : Content) → IsInlines linked behind content → IsWithout 0 content →
+inlines_readable : (linked trailing : Bool) (content : Content) → IsInlines linked trailing content → IsWithout 0 content →
     AreReadable content
-inlines_readable linked behind _ (kinds.nothing _ _) h = tt
-inlines_readable linked behind _ (kinds.text _ c cs rest is) h = (h.0, inlines_readable linked true rest is h.1)
-inlines_readable linked behind _ (kinds.inline _ _ kind name attributes kids rest is inner further) h = (
+inlines_readable linked trailing _ (kinds.nothing _ _) h = tt
+inlines_readable linked trailing _ (kinds.text _ c cs rest is) h = (h.0, inlines_readable linked true rest is h.1)
+inlines_readable linked trailing _ (kinds.inline _ _ kind name attributes kids rest is inner further) h = (
   inline_element kind linked name attributes kids is h.0,
   (inlines_readable _ false kids inner h.1.0, inlines_readable linked false rest further h.1.1),
 )

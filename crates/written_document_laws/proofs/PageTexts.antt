@@ -1,20 +1,19 @@
 -- A written document is a page's text as it stands: it begins with `<`, and no CR stands in it.
-use Rattle.std.proofs.Common.{◌≡◌, ℕ, Bool, true, false, ◌&&◌, ◌==◌, List, [], ◌∷◌, ◌++◌, codes, Option, None, Some}
-use Rattle.std.proofs.Common.{if◌then◌else◌, refl, sym, ap, subst, ◌∙◌}
+use Rattle.std.proofs.Common.{◌≡◌, ◌&&◌, ◌==◌, [], ◌∷◌, ◌++◌, if◌then◌else◌, ◌∙◌, Bool, List, None, Option, Some, ap}
+use Rattle.std.proofs.Common.{codes, false, refl, subst, sym, true, ℕ}
 use Rattle.document_laws.proofs.ReadTexts.{no_first, other_way}
 use Rattle.tree_forest.specs.Forest.{is_in}
 use Rattle.token_grammar.specs.PageText.{page_text}
 use Rattle.html_lexemes.specs.LineEnds.{begins_with_line_feed, line_feed, lines_ended}
 use Rattle.html_lexemes.specs.declared.names.Attribute.{Attribute}
 use Rattle.tree_serializer.specs.Escapes.{attributes_text, end_text, escaped, escaped_character, start_text}
-use Rattle.document_laws.specs.Contents.{Content, HasOne, Inline, IsBlocks, IsInline, IsInlines}
-use Rattle.document_laws.specs.Contents.{marks}
-use Rattle.document_laws.specs.Contents.{span, texts_of_blocks}
+use Rattle.document_laws.specs.Contents.{Content, HasOne, Inline, IsBlocks, IsInline, IsInlines, marks, span}
+use Rattle.document_laws.specs.Contents.{texts_of_blocks}
 use Rattle.document_laws.specs.Contents as kinds
 use Rattle.document_laws.specs.Planted.{of_html}
 use Rattle.written_document_laws.proofs.Elements.{for_one}
-use Rattle.written_document_laws.specs.Documents.{AreWithout, IsTitleWithout, IsWithout, content_text, document_text, is_void}
-use Rattle.written_document_laws.specs.Documents.{title_text}
+use Rattle.written_document_laws.specs.Documents.{AreWithout, IsTitleWithout, IsWithout, content_text, document_text}
+use Rattle.written_document_laws.specs.Documents.{is_void, title_text}
 
 -- no CR stands in a text
 abbrev NoReturn : List ℕ → Type 0
@@ -97,13 +96,13 @@ inline_attributes kinds.mark linked name attributes kids h without = bare_none a
 inline_attributes kinds.link linked name attributes kids h without =
     one_none (codes "href") attributes refl h.1.0 without
 
-inlines_none : (linked behind : Bool) (content : Content) → IsInlines linked behind content → IsWithout 13 content →
+inlines_none : (linked trailing : Bool) (content : Content) → IsInlines linked trailing content → IsWithout 13 content →
     NoReturn (content_text content)
-inlines_none linked behind _ (kinds.nothing _ _) h = refl
-inlines_none linked behind _ (kinds.text _ c cs rest is) h =
+inlines_none linked trailing _ (kinds.nothing _ _) h = refl
+inlines_none linked trailing _ (kinds.text _ c cs rest is) h =
     both (escaped false (c ∷ cs)) (content_text rest) (escaped_none false (c ∷ cs) h.0)
     (inlines_none linked true rest is h.1)
-inlines_none linked behind _ (kinds.inline _ _ kind name attributes kids rest is inner further) h =
+inlines_none linked trailing _ (kinds.inline _ _ kind name attributes kids rest is inner further) h =
     element_none name attributes kids rest (inline_name kind linked name attributes kids is)
     (inline_attributes kind linked name attributes kids is h.0) (inlines_none _ false kids inner h.1.0)
     (inlines_none linked false rest further h.1.1)

@@ -1,13 +1,13 @@
 -- What is written of items is read back as those items.
-use Rattle.std.proofs.Common.{◌≡◌, ℕ, Bool, true, false, ◌&&◌, List, [], ◌∷◌, ◌++◌, Option}
-use Rattle.std.proofs.Common.{Some, if◌then◌else◌, fold, refl, sym, ap, subst, ◌∙◌, append_assoc}
+use Rattle.std.proofs.Common.{◌≡◌, ◌&&◌, [], ◌∷◌, ◌++◌, if◌then◌else◌, ◌∙◌, Bool, List, Option, Some, ap, append_assoc}
+use Rattle.std.proofs.Common.{false, fold, refl, subst, sym, true, ℕ}
 use Rattle.std.specs.List.{list_all}
-use Rattle.document_laws.proofs.ReadTexts.{told_text}
+use Rattle.document_laws.proofs.ReadTexts.{emitted_text}
 use Rattle.document_laws.specs.Escaped.{KnowsEscapes}
 use Rattle.token_grammar.specs.Characters.{is_letter, name_of}
 use Rattle.token_grammar.specs.Items.{Item}
-use Rattle.token_grammar.specs.Lexemes.{behind_slash, ends_raw_text, is_last, lexeme, markup, named_end_tag}
-use Rattle.token_grammar.specs.Lexemes.{one_character, tag_lexeme, tagged, told}
+use Rattle.token_grammar.specs.Lexemes.{after_slash, emitted, ends_raw_text, is_last, lexeme, markup, named_end_tag}
+use Rattle.token_grammar.specs.Lexemes.{one_character, tag_lexeme, tagged}
 use Rattle.std.specs.Str.{bytes_eq}
 use Rattle.token_grammar.specs.Meaning.{Meaning}
 use Rattle.token_grammar.specs.Reading.{IsLawful, Reading, goes, tags}
@@ -20,15 +20,15 @@ use Rattle.html_lexemes.specs.declared.token.TagKind.TheVariants.{EndTag, StartT
 use Rattle.tree_serializer.specs.Escapes.{attributes_text, end_text, start_text}
 use Rattle.document_laws.specs.Planted.{of_html}
 use Rattle.document_laws.specs.Rebuilt.{html_doctype}
-use Rattle.written_document_laws.proofs.WrittenTags.{end_tag, letters_front, letters_rest, same_text, some_letters, start_tag}
-use Rattle.written_document_laws.proofs.WrittenTags.{tag_is_read}
-use Rattle.written_document_laws.specs.Written.{AreAttributes, AreReadBack, IsReadBack, IsTagName, closes, declares, ends_text}
-use Rattle.written_document_laws.specs.Written.{item_text, items_text, mode_after, mode_after_all, opens, ordinary, rcdata_of}
-use Rattle.written_document_laws.specs.Written.{text}
+use Rattle.written_document_laws.proofs.WrittenTags.{end_tag, letters_front, letters_rest, same_text, some_letters}
+use Rattle.written_document_laws.proofs.WrittenTags.{start_tag, tag_is_read}
+use Rattle.written_document_laws.specs.Written.{AreAttributes, AreReadBack, IsReadBack, IsTagName, closes, declares}
+use Rattle.written_document_laws.specs.Written.{ends_text, item_text, items_text, mode_after, mode_after_all, opens}
+use Rattle.written_document_laws.specs.Written.{ordinary, rcdata_of, text}
 
-begins_behind : (name more : List ℕ) → first_passes is_letter name ≡ true → first_passes is_letter (name ++ more) ≡ true
-begins_behind [] more e = absurd (let wrong : false ≡ true = e in cc)
-begins_behind (c ∷ name) more e = e
+begins_after : (name more : List ℕ) → first_passes is_letter name ≡ true → first_passes is_letter (name ++ more) ≡ true
+begins_after [] more e = absurd (let wrong : false ≡ true = e in cc)
+begins_after (c ∷ name) more e = e
 
 module _ (table : References) (knows : KnowsEscapes table) (foreign : Bool) where
   -- after `<` a letter opens a tag, and so it does after `</`
@@ -38,7 +38,7 @@ module _ (table : References) (knows : KnowsEscapes table) (foreign : Bool) wher
   a_tag mode (c ∷ cs) e = rw e refl
 
   an_end_tag : (mode : Mode) (cs : List ℕ) → first_passes is_letter cs ≡ true →
-      behind_slash table mode cs ≡ tag_lexeme (tag_at table EndTag cs)
+      after_slash table mode cs ≡ tag_lexeme (tag_at table EndTag cs)
   an_end_tag mode [] e = absurd (let wrong : false ≡ true = e in cc)
   an_end_tag mode (c ∷ cs) e = rw e refl
 
@@ -56,16 +56,16 @@ module _ (table : References) (knows : KnowsEscapes table) (foreign : Bool) wher
       lexeme table foreign (ordinary last) (start_text (of_html name) attributes ++ rest)
       ≡ tagged (start_tag name attributes) rest
   start_lexeme last name attributes rest n h f =
-      let behind : List ℕ = attributes_text attributes ++ 62 ∷ rest in
+      let trailing : List ℕ = attributes_text attributes ++ 62 ∷ rest in
       ap (lexeme table foreign (ordinary last)) (start_apart name attributes rest)
-      ∙ a_tag (ordinary last) (name ++ behind) (begins_behind name behind n.begins)
+      ∙ a_tag (ordinary last) (name ++ trailing) (begins_after name trailing n.begins)
       ∙ ap tag_lexeme (tag_is_read table knows StartTag name attributes rest n h f)
 
   end_lexeme : (last : Option (List ℕ)) (name rest : List ℕ) → IsTagName name →
       lexeme table foreign (ordinary last) (end_text (of_html name) ++ rest) ≡ tagged (end_tag name) rest
   end_lexeme last name rest n =
       ap (lexeme table foreign (ordinary last)) (end_apart name rest)
-      ∙ an_end_tag (ordinary last) (name ++ 62 ∷ rest) (begins_behind name (62 ∷ rest) n.begins)
+      ∙ an_end_tag (ordinary last) (name ++ 62 ∷ rest) (begins_after name (62 ∷ rest) n.begins)
       ∙ ap tag_lexeme (tag_is_read table knows EndTag name [] rest n tt refl)
 
   is_named : (name rest : List ℕ) → IsTagName name → list_all is_letter name ≡ true →
@@ -87,7 +87,7 @@ module _ (table : References) (knows : KnowsEscapes table) (foreign : Bool) wher
 
   doctype_lexeme : (last : Option (List ℕ)) (rest : List ℕ) →
       lexeme table foreign (ordinary last) (item_text html_doctype ++ rest)
-      ≡ told (html_doctype ∷ []) (ordinary last) rest
+      ≡ emitted (html_doctype ∷ []) (ordinary last) rest
   doctype_lexeme last rest = refl
 
 module _ {A H : Type 0} (table : References) (knows : KnowsEscapes table) (means : Meaning A H) {ready : A → Type 0}
@@ -97,7 +97,7 @@ module _ {A H : Type 0} (table : References) (knows : KnowsEscapes table) (means
       Reading table means (mode_after means mode state item) (means.step state item) rest final →
       Reading table means mode state (item_text item ++ rest) final
   item_read mode state _ rest final (text _ cs reads no_nul) r =
-      told_text table knows means lawful mode reads rest final state cs no_nul r
+      emitted_text table knows means lawful mode reads rest final state cs no_nul r
   item_read _ state _ rest final (opens last name attributes n h f) r =
       tags (ordinary last) state (start_text (of_html name) attributes ++ rest) (start_tag name attributes) rest final
       (start_lexeme table knows (means.foreign state) last name attributes rest n h f) r

@@ -1,6 +1,6 @@
 -- Documents whose trees are equal are equal.
-use Rattle.std.proofs.Common.{◌≡◌, ℕ, ◌+◌, suc, List, [], ◌∷◌, ◌++◌, length, codes, Option, None, Some, refl, sym, ap}
-use Rattle.std.proofs.Common.{subst, ◌∙◌}
+use Rattle.std.proofs.Common.{◌≡◌, ◌+◌, [], ◌∷◌, ◌++◌, ◌∙◌, List, None, Option, Some, ap, codes, length, refl, subst}
+use Rattle.std.proofs.Common.{suc, sym, ℕ}
 use Rattle.tree_forest.specs.Forest.{Forest, Node, children_at, document, element_of, node_at, text, text_of}
 use Rattle.html_lexemes.specs.declared.names.Attribute.{Attribute}
 use Rattle.document_laws.specs.Contents.{Content, none, say, span}

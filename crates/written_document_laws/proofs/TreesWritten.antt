@@ -1,6 +1,5 @@
 -- The tree of what is written of a document is the document's.
-use Rattle.std.proofs.Common.{◌≡◌, ℕ, Bool, true, false, List, [], ◌∷◌, Option, fold}
-use Rattle.std.proofs.Common.{if◌then◌else◌, refl, ap, ◌∙◌}
+use Rattle.std.proofs.Common.{◌≡◌, [], ◌∷◌, if◌then◌else◌, ◌∙◌, Bool, List, Option, ap, false, fold, refl, true, ℕ}
 use Rattle.document_laws.specs.Escaped.{KnowsEscapes}
 use Rattle.tree_forest.specs.Forest.{page_alone}
 use Rattle.token_grammar.proofs.Readings.{one}

@@ -1,9 +1,9 @@
 -- The walk of a document's tree writes the document.
-use Rattle.std.proofs.Common.{◌≡◌, ℕ, zero, suc, ◌+◌, ◌≤◌, Bool, true, false, List, [], ◌∷◌, ◌++◌, length, codes}
-use Rattle.std.proofs.Common.{Option, None, Some, if◌then◌else◌, refl, sym, ap, subst, ◌∙◌, append_assoc, append-nil}
-use Rattle.std.proofs.Common.{arith}
+use Rattle.std.proofs.Common.{◌≡◌, ◌+◌, ◌≤◌, [], ◌∷◌, ◌++◌, if◌then◌else◌, ◌∙◌, Bool, List, None, Option, Some, ap}
+use Rattle.std.proofs.Common.{append-nil, append_assoc, arith, codes, false, length, refl, subst, suc, sym, true, zero}
+use Rattle.std.proofs.Common.{ℕ}
 use Rattle.std.proofs.lemmas.List.{length-append}
-use Rattle.tree_forest.specs.Forest.{Forest, Node, children_at, element_of, node_at, text}
+use Rattle.tree_forest.specs.Forest.{Forest, Node, children_at, document, element_of, node_at, text}
 use Rattle.html_lexemes.specs.declared.names.QualName.{QualName}
 use Rattle.tree_serializer.specs.Escapes.{end_text, escaped, start_text}
 use Rattle.tree_serializer.specs.Walks.{contents_or, is_raw, joined, run_text, text_by, text_within, walk_text}
@@ -13,7 +13,6 @@ use Rattle.written_document_laws.proofs.Elements.{AreNamed, blocks_named, never_
 use Rattle.written_document_laws.specs.Documents.{content_text, document_text, is_void}
 use Rattle.document_laws.specs.Rebuilt.{document_tree}
 use Rattle.document_laws.specs.Planted.{listed, node_of_element, of_html, roots, size}
-use Rattle.tree_forest.specs.Forest.{document}
 use Rattle.written_document_laws.specs.Trees.{body_number, doctype_node, head_nodes, whole_tree}
 
 -- ---- what stands in a list
@@ -25,11 +24,11 @@ StandsAs n (say c cs rest) f = (node_at n f ≡ record { kind = text (c ∷ cs);
 StandsAs n (span name attributes kids rest) f = (node_at n f ≡ node_of_element name attributes (roots (suc n) kids))
     × (StandsAs (suc n) kids f × StandsAs (suc n + size kids) rest f)
 
-node_behind : (front : Forest) (x : Node) (later : Forest) (n : ℕ) → length front ≡ n → node_at n (front ++ x ∷ later)
+node_after : (front : Forest) (x : Node) (later : Forest) (n : ℕ) → length front ≡ n → node_at n (front ++ x ∷ later)
     ≡ x
-node_behind [] x later n e = subst (λ k. node_at k (x ∷ later) ≡ x) e refl
-node_behind (y ∷ front) x later n e =
-    subst (λ k. node_at k (y ∷ (front ++ x ∷ later)) ≡ x) e (node_behind front x later (length front) refl)
+node_after [] x later n e = subst (λ k. node_at k (x ∷ later) ≡ x) e refl
+node_after (y ∷ front) x later n e =
+    subst (λ k. node_at k (y ∷ (front ++ x ∷ later)) ≡ x) e (node_after front x later (length front) refl)
 
 one_longer : (front : Forest) (x : Node) (n : ℕ) → length front ≡ n → length (front ++ x ∷ []) ≡ suc n
 one_longer front x n e = omega (arith, e, length-append front (x ∷ []))
@@ -50,23 +49,23 @@ listed_stands n none front later e = tt
 listed_stands n (say c cs rest) front later e =
     let x : Node = record { kind = text (c ∷ cs); children = [] } in
     let more : Forest = listed (suc n) rest ++ later in (
-      node_behind front x more n e,
+      node_after front x more n e,
       subst (StandsAs (suc n) rest) (append_assoc front (x ∷ []) more)
           (listed_stands (suc n) rest (front ++ x ∷ []) later (one_longer front x n e)),
     )
 listed_stands n (span name attributes kids rest) front later e =
     let x : Node = node_of_element name attributes (roots (suc n) kids) in
     let inner : Forest = listed (suc n) kids in
-    let behind : Forest = listed (suc n + size kids) rest in
-    let apart : front ++ ((x ∷ (inner ++ behind)) ++ later) ≡ (front ++ x ∷ []) ++ (inner ++ (behind ++ later))
-    = ap (λ l. front ++ x ∷ l) (append_assoc inner behind later)
-    ∙ sym (append_assoc front (x ∷ []) (inner ++ (behind ++ later))) in (
-      node_behind front x ((inner ++ behind) ++ later) n e,
+    let trailing : Forest = listed (suc n + size kids) rest in
+    let apart : front ++ ((x ∷ (inner ++ trailing)) ++ later) ≡ (front ++ x ∷ []) ++ (inner ++ (trailing ++ later))
+    = ap (λ l. front ++ x ∷ l) (append_assoc inner trailing later)
+    ∙ sym (append_assoc front (x ∷ []) (inner ++ (trailing ++ later))) in (
+      node_after front x ((inner ++ trailing) ++ later) n e,
       (
         subst (StandsAs (suc n) kids) (sym apart)
-            (listed_stands (suc n) kids (front ++ x ∷ []) (behind ++ later) (one_longer front x n e)),
+            (listed_stands (suc n) kids (front ++ x ∷ []) (trailing ++ later) (one_longer front x n e)),
         subst (StandsAs (suc n + size kids) rest) (sym
-            (apart ∙ sym (append_assoc (front ++ x ∷ []) inner (behind ++ later))))
+            (apart ∙ sym (append_assoc (front ++ x ∷ []) inner (trailing ++ later))))
             (listed_stands (suc n + size kids) rest ((front ++ x ∷ []) ++ inner) later
             (longer_by (front ++ x ∷ []) inner (suc n) (size kids) (one_longer front x n e)
             (length_listed (suc n) kids))),

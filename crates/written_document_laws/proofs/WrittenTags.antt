@@ -1,6 +1,6 @@
 -- A tag that is written is the slice of that tag.
-use Rattle.std.proofs.Common.{◌≡◌, ℕ, true, false, not, ◌||◌, ◌==◌, List, [], ◌∷◌, ◌++◌, length}
-use Rattle.std.proofs.Common.{Some, refl, sym, ap, subst, ◌∙◌, append_assoc, arith}
+use Rattle.std.proofs.Common.{◌≡◌, ◌||◌, ◌==◌, [], ◌∷◌, ◌++◌, ◌∙◌, List, Some, ap, append_assoc, arith, false, length}
+use Rattle.std.proofs.Common.{not, refl, subst, sym, true, ℕ}
 use Rattle.std.proofs.lemmas.Bool.{and_from, and_parts, cond-true, eq-eqb, not-true}
 use Rattle.std.proofs.lemmas.Bool.Decides.{nat_tests}
 use Rattle.std.proofs.lemmas.List.Sums.{AllPass-from_list_all}
@@ -16,10 +16,9 @@ use Rattle.token_grammar.proofs.TagSlicesRead.{tag_read}
 use Rattle.token_grammar.proofs.ValuesInTurn.{value_is}
 use Rattle.token_grammar.specs.Characters.{is_letter, is_space, name_of}
 use Rattle.token_grammar.specs.Slices.{first_passes, front_while, rest_while}
-use Rattle.token_grammar.specs.TagLaws.{AreWritten, IsAttributeSlice, IsValue, IsValueSlice, closes}
-use Rattle.token_grammar.specs.TagLaws.{has, quoted}
-use Rattle.token_grammar.specs.Tags.{attribute, ends_attribute_name, ends_tag_name, first_of_each, greater}
-use Rattle.token_grammar.specs.Tags.{is_gap, tag_at, tag_of}
+use Rattle.token_grammar.specs.TagLaws.{AreWritten, IsAttributeSlice, IsValue, IsValueSlice, closes, has, quoted}
+use Rattle.token_grammar.specs.Tags.{attribute, ends_attribute_name, ends_tag_name, first_of_each, greater, is_gap}
+use Rattle.token_grammar.specs.Tags.{tag_at, tag_of}
 use Rattle.lex_base.specs.References.{References}
 use Rattle.html_lexemes.specs.declared.names.Attribute.{Attribute}
 use Rattle.html_lexemes.specs.declared.names.Namespace.TheVariants.{Other}
@@ -61,16 +60,16 @@ abbrev pub value_slice : List ℕ → List ℕ
 value_slice value = 61 ∷ 34 ∷ (escaped true value ++ (34 ∷ []))
 
 abbrev pub attribute_before : List ℕ → List ℕ → List ℕ → List ℕ
-attribute_before name value behind = name ++ (value_slice value ++ behind)
+attribute_before name value trailing = name ++ (value_slice value ++ trailing)
 
-attribute_apart : (a : Attribute) (behind : List ℕ) →
-    attribute_text a ++ behind ≡ 32 ∷ attribute_before a.name.local a.value behind
-attribute_apart a behind =
+attribute_apart : (a : Attribute) (trailing : List ℕ) →
+    attribute_text a ++ trailing ≡ 32 ∷ attribute_before a.name.local a.value trailing
+attribute_apart a trailing =
     let e : List ℕ = escaped true a.value in
     ap (λ l. 32 ∷ l)
-    (append_assoc (a.name.local ++ 61 ∷ 34 ∷ e) (34 ∷ []) behind
-    ∙ append_assoc a.name.local (61 ∷ 34 ∷ e) (34 ∷ behind)
-    ∙ ap (λ l. a.name.local ++ 61 ∷ 34 ∷ l) (sym (append_assoc e (34 ∷ []) behind)))
+    (append_assoc (a.name.local ++ 61 ∷ 34 ∷ e) (34 ∷ []) trailing
+    ∙ append_assoc a.name.local (61 ∷ 34 ∷ e) (34 ∷ trailing)
+    ∙ ap (λ l. a.name.local ++ 61 ∷ 34 ∷ l) (sym (append_assoc e (34 ∷ []) trailing)))
 
 in_none : (a : Attribute) → a.name.ns ≡ Other [] → a ≡ attribute a.name.local a.value
 in_none a e = ap (λ n. record { name = record { ns = n; local = a.name.local }; value = a.value }) e
@@ -80,31 +79,31 @@ module _ (table : References) (knows : KnowsEscapes table) where
   is_value value h =
       subst (IsValue table (escaped true value)) (read_value table knows value h) (value_is table (escaped true value))
 
-  quoted_value : (value behind : List ℕ) → IsValueSlice (value_slice value) (escaped true value) behind
-  quoted_value value behind = quoted 34 [] [] (escaped true value) behind (value_slice value) refl
+  quoted_value : (value trailing : List ℕ) → IsValueSlice (value_slice value) (escaped true value) trailing
+  quoted_value value trailing = quoted 34 [] [] (escaped true value) trailing (value_slice value) refl
       (AllPass-from_list_all is_space [] refl) (AllPass-from_list_all is_space [] refl) refl
       (AllPass-from_list_all (λ c. not (c == 34)) (escaped true value)
       (no_quote (escaped true value) (escaped-no_quote value)))
 
-  attribute_slice : (name : List ℕ) (a : Attribute) (behind : List ℕ) → a.name.ns ≡ Other [] → a.name.local ≡ name →
+  attribute_slice : (name : List ℕ) (a : Attribute) (trailing : List ℕ) → a.name.ns ≡ Other [] → a.name.local ≡ name →
       first_passes (λ c. not (is_gap c || c == greater)) name ≡ true →
       list_all (λ c. not (ends_attribute_name c)) name ≡ true → name_of name ≡ name → HasNoNul a.value →
-      IsAttributeSlice table (attribute_before name a.value behind) a behind
-  attribute_slice [] a behind ns e b g l h = absurd (let wrong : false ≡ true = b in cc)
-  attribute_slice (c ∷ cs) a behind ns e b g l h = record {
+      IsAttributeSlice table (attribute_before name a.value trailing) a trailing
+  attribute_slice [] a trailing ns e b g l h = absurd (let wrong : false ≡ true = b in cc)
+  attribute_slice (c ∷ cs) a trailing ns e b g l h = record {
     first = c;
     others = cs;
     slice = value_slice a.value;
     written = escaped true a.value;
     value = a.value;
-    side_by_side = ap (λ t. c ∷ t) (sym (append_assoc cs (value_slice a.value) behind));
+    side_by_side = ap (λ t. c ∷ t) (sym (append_assoc cs (value_slice a.value) trailing));
     begins_name = not-true (is_gap c || c == greater) b;
     goes_on = record {
       pass = AllPass-from_list_all (λ c. not (ends_attribute_name c)) cs
           (and_parts (not (ends_attribute_name c)) (list_all (λ c. not (ends_attribute_name c)) cs) g).1;
       stops = refl;
     };
-    has_value = quoted_value a.value behind;
+    has_value = quoted_value a.value trailing;
     is_value = is_value a.value h;
     is = in_none a ns ∙ ap (λ n. attribute n a.value) (e ∙ sym l);
   }
@@ -113,12 +112,12 @@ module _ (table : References) (knows : KnowsEscapes table) where
       AreWritten table (attributes_text attributes ++ 62 ∷ rest) attributes false rest
   are_written [] rest h = closes [] rest (62 ∷ rest) refl (AllPass-from_list_all is_gap [] refl)
   are_written (a ∷ attributes) rest h =
-      let behind : List ℕ = attributes_text attributes ++ 62 ∷ rest in
-      has (32 ∷ []) (attribute_before a.name.local a.value behind) behind rest
+      let trailing : List ℕ = attributes_text attributes ++ 62 ∷ rest in
+      has (32 ∷ []) (attribute_before a.name.local a.value trailing) trailing rest
       (attributes_text (a ∷ attributes) ++ 62 ∷ rest) a attributes false
-      (append_assoc (attribute_text a) (attributes_text attributes) (62 ∷ rest) ∙ attribute_apart a behind)
+      (append_assoc (attribute_text a) (attributes_text attributes) (62 ∷ rest) ∙ attribute_apart a trailing)
       (AllPass-from_list_all is_gap (32 ∷ []) refl)
-      (attribute_slice a.name.local a behind h.0.0 refl h.0.1.0.begins h.0.1.0.goes_on h.0.1.0.lower h.0.1.1)
+      (attribute_slice a.name.local a trailing h.0.0 refl h.0.1.0.begins h.0.1.0.goes_on h.0.1.0.lower h.0.1.1)
       (are_written attributes rest h.1)
 
   -- ---- tags
@@ -175,7 +174,7 @@ module _ (table : References) (knows : KnowsEscapes table) where
   tag_is_read kind name attributes rest n h f =
       tag_read table kind (name ++ (attributes_text attributes ++ 62 ∷ rest)) _ rest (record {
         name = name;
-        behind = attributes_text attributes ++ 62 ∷ rest;
+        trailing = attributes_text attributes ++ 62 ∷ rest;
         attributes = attributes;
         closing = false;
         side_by_side = refl;

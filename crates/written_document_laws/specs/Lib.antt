@@ -1,4 +1,4 @@
 pub mod Documents
-pub mod Tellings
+pub mod Emissions
 pub mod Trees
 pub mod Written

@@ -1,12 +1,11 @@
 -- What is written of a page's items (WHATWG HTML, 13.3), and when it is read back as those items (13.2.5).
-use Rattle.std.specs.Prelude.{◌≡◌, ℕ, true, false, not, ◌||◌, ◌==◌, List, [], ◌∷◌, ◌++◌, Option, Some}
-use Rattle.std.specs.Prelude.{unwrap_or}
+use Rattle.std.specs.Prelude.{◌≡◌, ◌||◌, ◌==◌, [], ◌∷◌, ◌++◌, List, Option, Some, false, not, true, unwrap_or, ℕ}
 use Rattle.std.specs.List.{list_all}
 use Rattle.document_laws.specs.Escaped.{HasNoNul, ReadsReferences}
 use Rattle.token_grammar.specs.Characters.{is_letter, name_of}
 use Rattle.token_grammar.specs.Items.{Item, characters, comment, doctype, end_of_file, error, null_character, tag}
 use Rattle.token_grammar.specs.Meaning.{Meaning}
-use Rattle.token_grammar.specs.Modes.{mode_behind}
+use Rattle.token_grammar.specs.Modes.{next_mode}
 use Rattle.token_grammar.specs.Slices.{first_passes}
 use Rattle.token_grammar.specs.Tags.{ends_attribute_name, ends_tag_name, first_of_each, greater, is_gap}
 use Rattle.token_grammar.specs.declared.modes.Mode.{Mode}
@@ -82,7 +81,7 @@ pub data IsReadBack : Mode → Item → Type 0 where
 
 -- the mode after an item, by the sink's reply to it
 abbrev pub mode_after : {A H : Type 0} → Meaning A H → Mode → A → Item → Mode
-mode_after means mode state (tag t) = mode_behind mode t (means.reply state (tag t))
+mode_after means mode state (tag t) = next_mode mode t (means.reply state (tag t))
 mode_after means mode state (characters cs) = mode
 mode_after means mode state null_character = mode
 mode_after means mode state (comment cs) = mode

@@ -20,15 +20,17 @@ ghost use Rattle.document_laws.specs.Rebuilt.{document_tokens, document_tree};
 ghost use Rattle.rules_table.specs.Settling.{meaning};
 ghost use Rattle.rules_table.specs.State.{State};
 ghost use Rattle.written_document_laws.specs.Documents.{AreRepliedTo, HoldsNoNul, HoldsNoReturn, document_text};
-ghost use Rattle.written_document_laws.specs.Tellings.{document_calls};
+ghost use Rattle.written_document_laws.specs.Emissions.{document_calls};
 ghost use Rattle.written_document_laws.specs.Trees.{whole_tree};
 ghost use Rattle.written_document_laws.specs.Written.{AreReadBack, items_text, mode_after_all, ordinary};
 
-use document_laws::{a_planted_tree_is_at_once, documents_ask, documents_rebuild, the_basic_table_knows_escapes};
-use tree_forest::a_page_alone_is_a_forest;
-use token_grammar::TokenSink;
+use document_laws::{
+    a_planted_tree_is_at_once, documents_ask, documents_rebuild, the_basic_table_knows_escapes,
+};
 use page_laws::a_page_is_at_its_beginning;
 use rules_table_laws::tree_construction_is_lawful;
+use token_grammar::TokenSink;
+use tree_forest::a_page_alone_is_a_forest;
 
 /// The reading of what is written of a page's items, whatever follows it, emits the items.
 pub fn written_items_are_read_back<S: TokenSink>()
@@ -84,8 +86,8 @@ pub fn a_document_is_walked()
     a_documents_tree_at_once();
 }
 
-/// The walk of a document's tree emits a serializer the document.
-pub fn a_document_is_told()
+/// The walk of a document's tree gives a serializer the document.
+pub fn a_document_is_emitted()
     ensures { (scope : Scope) (title : Option (List ℕ)) (content : Content) →
         calls_of scope 0 (whole_tree title content) ≡ document_calls title content }
 {}

@@ -18,7 +18,7 @@
 //! - `a_documents_tree_at_once`: that tree, planted node by node, is the one in which all nodes stand at once
 //!   (`whole_tree`)
 //! - `a_document_is_walked`: the walk of a document's tree writes the document, whether scripts are run or not
-//! - `a_document_is_told`: the walk of that tree emits a serializer the document's calls (`document_calls`),
+//! - `a_document_is_emitted`: the walk of that tree gives a serializer the document's calls (`document_calls`),
 //!   whether its own node is counted or not
 //! - `a_written_document_is_written_back`: what is written again of the tree to which a written document is read is
 //!   the same text
@@ -35,7 +35,7 @@
 mod laws;
 
 pub use laws::{
-    a_document_is_told, a_document_is_walked, a_documents_tree_at_once,
+    a_document_is_emitted, a_document_is_walked, a_documents_tree_at_once,
     a_written_document_has_its_tree, a_written_document_is_a_page_text,
     a_written_document_is_read_back, a_written_document_is_written_back,
     a_written_page_has_its_tree, no_text_is_two_documents, written_items_are_read_back,

@@ -52,7 +52,7 @@ fn raw_texts()
     ensures fostered { answer (start (codes "table") ∷ []) (start (codes "textarea"))
         ≡ RawData Rcdata }
     // <table>a and then <style>
-    ensures behind_pending_text { answer (start (codes "table") ∷ words (codes "a") ∷ []) (start (codes "style"))
+    ensures after_pending_text { answer (start (codes "table") ∷ words (codes "a") ∷ []) (start (codes "style"))
         ≡ RawData Rawtext }
     // <frameset> and then <title>
     ensures ignored { answer (start (codes "frameset") ∷ []) (start (codes "title"))
@@ -72,7 +72,7 @@ fn encodings()
         (start_with (codes "meta") (codes "charset") (codes "a"))
         ≡ EncodingIndicator (codes "a") }
     // <head></head> and then <meta charset=a>
-    ensures charset_behind_head { answer (start (codes "head") ∷ end (codes "head") ∷ [])
+    ensures charset_after_head { answer (start (codes "head") ∷ end (codes "head") ∷ [])
         (start_with (codes "meta") (codes "charset") (codes "a"))
         ≡ EncodingIndicator (codes "a") }
     // <meta>

@@ -1,9 +1,8 @@
 //! In the body: what stands after a mark. Elements are named from the root on.
 ghost use Rattle.std.specs.Prelude.{◌≡◌, [], ◌∷◌, codes};
-ghost use Rattle.test_rules.specs.RowWords.{doctype_named, end, finished, null, remark, start, start_with, view};
-ghost use Rattle.test_rules.specs.RowWords.{words};
-ghost use Rattle.tree_predicates.specs.declared.modes.InsertionMode.TheVariants.{InBody, Text, InTemplate, AfterBody};
-ghost use Rattle.tree_predicates.specs.declared.modes.InsertionMode.TheVariants.{InFrameset, AfterAfterBody};
+ghost use Rattle.test_rules.specs.RowWords.{doctype_named, end, finished, null, remark, start, start_with, view, words};
+ghost use Rattle.tree_predicates.specs.declared.modes.InsertionMode.TheVariants.{AfterAfterBody, AfterBody, InBody};
+ghost use Rattle.tree_predicates.specs.declared.modes.InsertionMode.TheVariants.{InFrameset, InTemplate, Text};
 
 #[tactic(auto, unfolding(tree_names::specs::Groups::tag_group, rules_table::specs::Actions::act))]
 fn in_body()

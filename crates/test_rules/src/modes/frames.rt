@@ -1,10 +1,11 @@
 //! The modes of templates and framesets: what stands after a mark. Elements are named from the root on.
 ghost use Rattle.std.specs.Prelude.{◌≡◌, [], ◌∷◌, ◌++◌, codes};
 ghost use Rattle.test_rules.specs.RowWords.{doctype_named, end, finished, null, remark, start, view, words};
-ghost use Rattle.tree_predicates.specs.declared.modes.InsertionMode.TheVariants.{InHead, InBody, Text, InTableText};
-ghost use Rattle.tree_predicates.specs.declared.modes.InsertionMode.TheVariants.{InCaption, InColumnGroup, InTableBody};
-ghost use Rattle.tree_predicates.specs.declared.modes.InsertionMode.TheVariants.{InRow, InCell, InTemplate, InFrameset};
-ghost use Rattle.tree_predicates.specs.declared.modes.InsertionMode.TheVariants.{AfterFrameset, AfterAfterFrameset};
+ghost use Rattle.tree_predicates.specs.declared.modes.InsertionMode.TheVariants.{AfterAfterFrameset, AfterFrameset};
+ghost use Rattle.tree_predicates.specs.declared.modes.InsertionMode.TheVariants.{InBody, InCaption, InCell};
+ghost use Rattle.tree_predicates.specs.declared.modes.InsertionMode.TheVariants.{InColumnGroup, InFrameset, InHead};
+ghost use Rattle.tree_predicates.specs.declared.modes.InsertionMode.TheVariants.{InRow, InTableBody, InTableText};
+ghost use Rattle.tree_predicates.specs.declared.modes.InsertionMode.TheVariants.{InTemplate, Text};
 
 #[tactic(auto, unfolding(tree_names::specs::Groups::tag_group, rules_table::specs::Actions::act))]
 fn in_template()
@@ -121,7 +122,7 @@ fn in_template()
           tree = codes "<html><head><template><td></td></template></head></html>";
         } }
     // <template><tr></tr><td>
-    ensures cell_behind_row { view (start (codes "template") ∷ start (codes "tr") ∷ end (codes "tr")
+    ensures cell_after_row { view (start (codes "template") ∷ start (codes "tr") ∷ end (codes "tr")
         ∷ start (codes "td") ∷ [])
         ≡ record {
           mode = InCell;

@@ -2,10 +2,10 @@
 ghost use Rattle.std.specs.Prelude.{◌≡◌, [], ◌∷◌, codes};
 ghost use Rattle.test_rules.specs.RowWords.{doctype_named, end, finished, null, remark, start, view, view_from};
 ghost use Rattle.test_rules.specs.RowWords.{without_scripts, words};
-ghost use Rattle.tree_predicates.specs.declared.modes.InsertionMode.TheVariants.{Initial, BeforeHtml, BeforeHead, InHead};
-ghost use Rattle.tree_predicates.specs.declared.modes.InsertionMode.TheVariants.{InHeadNoscript, AfterHead, InBody, Text};
-ghost use Rattle.tree_predicates.specs.declared.modes.InsertionMode.TheVariants.{InTemplate, AfterBody, InFrameset};
-ghost use Rattle.tree_predicates.specs.declared.modes.InsertionMode.TheVariants.{AfterAfterBody};
+ghost use Rattle.tree_predicates.specs.declared.modes.InsertionMode.TheVariants.{AfterAfterBody, AfterBody, AfterHead};
+ghost use Rattle.tree_predicates.specs.declared.modes.InsertionMode.TheVariants.{BeforeHead, BeforeHtml, InBody};
+ghost use Rattle.tree_predicates.specs.declared.modes.InsertionMode.TheVariants.{InFrameset, InHead, InHeadNoscript};
+ghost use Rattle.tree_predicates.specs.declared.modes.InsertionMode.TheVariants.{InTemplate, Initial, Text};
 
 #[tactic(auto, unfolding(tree_names::specs::Groups::tag_group, rules_table::specs::Actions::act))]
 fn initial()
@@ -22,7 +22,7 @@ fn initial()
     ensures doctype { view (doctype_named (codes "html") ∷ [])
         ≡ record { mode = BeforeHtml; elements = codes ""; tree = codes "<!html>" } }
     // <!--a--><!doctype html>
-    ensures doctype_behind_comment { view (remark (codes "a") ∷ doctype_named (codes "html") ∷ [])
+    ensures doctype_after_comment { view (remark (codes "a") ∷ doctype_named (codes "html") ∷ [])
         ≡ record { mode = BeforeHtml; elements = codes ""; tree = codes "<!--a--><!html>" } }
     // </p>
     ensures other_end { view (end (codes "p") ∷ [])

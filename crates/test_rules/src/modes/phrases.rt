@@ -2,9 +2,9 @@
 ghost use Rattle.std.specs.Prelude.{◌≡◌, [], ◌∷◌, ◌++◌, codes};
 ghost use Rattle.test_rules.specs.RowWords.{doctype_named, end, finished, null, remark, start, start_closed, view};
 ghost use Rattle.test_rules.specs.RowWords.{words};
-ghost use Rattle.tree_predicates.specs.declared.modes.InsertionMode.TheVariants.{InHead, AfterHead, InBody, Text, InTable};
-ghost use Rattle.tree_predicates.specs.declared.modes.InsertionMode.TheVariants.{InCell, InTemplate, AfterBody};
-ghost use Rattle.tree_predicates.specs.declared.modes.InsertionMode.TheVariants.{AfterAfterBody};
+ghost use Rattle.tree_predicates.specs.declared.modes.InsertionMode.TheVariants.{AfterAfterBody, AfterBody, AfterHead};
+ghost use Rattle.tree_predicates.specs.declared.modes.InsertionMode.TheVariants.{InBody, InCell, InHead, InTable};
+ghost use Rattle.tree_predicates.specs.declared.modes.InsertionMode.TheVariants.{InTemplate, Text};
 
 #[tactic(auto, unfolding(tree_names::specs::Groups::tag_group, rules_table::specs::Actions::act))]
 fn phrases()
@@ -222,7 +222,7 @@ fn text()
           tree = codes "<html><head><title>a</title></head><body></body></html>";
         } }
     // <head></head><title>a</title>
-    ensures back_behind_head { view (start (codes "head") ∷ end (codes "head") ∷ start (codes "title")
+    ensures back_after_head { view (start (codes "head") ∷ end (codes "head") ∷ start (codes "title")
         ∷ words (codes "a") ∷ end (codes "title") ∷ [])
         ≡ record {
           mode = AfterHead;

@@ -1,9 +1,9 @@
 //! The modes of sections, rows and cells: what stands after a mark. Elements are named from the root on.
 ghost use Rattle.std.specs.Prelude.{◌≡◌, [], ◌∷◌, ◌++◌, codes};
 ghost use Rattle.test_rules.specs.RowWords.{doctype_named, end, finished, null, remark, start, view, words};
-ghost use Rattle.tree_predicates.specs.declared.modes.InsertionMode.TheVariants.{InBody, InTable, InTableText, InCaption};
-ghost use Rattle.tree_predicates.specs.declared.modes.InsertionMode.TheVariants.{InColumnGroup, InTableBody, InRow};
-ghost use Rattle.tree_predicates.specs.declared.modes.InsertionMode.TheVariants.{InCell};
+ghost use Rattle.tree_predicates.specs.declared.modes.InsertionMode.TheVariants.{InBody, InCaption, InCell};
+ghost use Rattle.tree_predicates.specs.declared.modes.InsertionMode.TheVariants.{InColumnGroup, InRow, InTable};
+ghost use Rattle.tree_predicates.specs.declared.modes.InsertionMode.TheVariants.{InTableBody, InTableText};
 
 #[tactic(auto, unfolding(tree_names::specs::Groups::tag_group, rules_table::specs::Actions::act))]
 fn in_table_body()

@@ -1,10 +1,11 @@
 //! The modes of tables: what stands after a mark. Elements are named from the root on.
 ghost use Rattle.std.specs.Prelude.{◌≡◌, [], ◌∷◌, ◌++◌, codes};
-ghost use Rattle.test_rules.specs.RowWords.{doctype_named, end, error, finished, null, remark, start, start_with};
-ghost use Rattle.test_rules.specs.RowWords.{view, words};
-ghost use Rattle.tree_predicates.specs.declared.modes.InsertionMode.TheVariants.{InBody, Text, InTable, InTableText};
-ghost use Rattle.tree_predicates.specs.declared.modes.InsertionMode.TheVariants.{InCaption, InColumnGroup, InTableBody};
-ghost use Rattle.tree_predicates.specs.declared.modes.InsertionMode.TheVariants.{InRow, InCell, InTemplate};
+ghost use Rattle.test_rules.specs.RowWords.{doctype_named, end, error, finished, null, remark, start, start_with, view};
+ghost use Rattle.test_rules.specs.RowWords.{words};
+ghost use Rattle.tree_predicates.specs.declared.modes.InsertionMode.TheVariants.{InBody, InCaption, InCell};
+ghost use Rattle.tree_predicates.specs.declared.modes.InsertionMode.TheVariants.{InColumnGroup, InRow, InTable};
+ghost use Rattle.tree_predicates.specs.declared.modes.InsertionMode.TheVariants.{InTableBody, InTableText, InTemplate};
+ghost use Rattle.tree_predicates.specs.declared.modes.InsertionMode.TheVariants.{Text};
 
 #[tactic(auto, unfolding(tree_names::specs::Groups::tag_group, rules_table::specs::Actions::act))]
 fn in_table()
@@ -212,7 +213,7 @@ fn in_table_text()
           tree = codes "<html><head></head><body> a<table><tbody><tr></tr></tbody></table></body></html>";
         } }
     // <table> <!--b-->a</table>
-    ensures behind_comment { view (start (codes "table") ∷ words (codes " ") ∷ remark (codes "b") ∷ words (codes "a")
+    ensures after_comment { view (start (codes "table") ∷ words (codes " ") ∷ remark (codes "b") ∷ words (codes "a")
         ∷ end (codes "table") ∷ [])
         ≡ record {
           mode = InBody;
@@ -220,7 +221,7 @@ fn in_table_text()
           tree = codes "<html><head></head><body>a<table> <!--b--></table></body></html>";
         } }
     // <table> <!doctype html>a</table>
-    ensures behind_doctype { view (start (codes "table") ∷ words (codes " ") ∷ doctype_named (codes "html")
+    ensures after_doctype { view (start (codes "table") ∷ words (codes " ") ∷ doctype_named (codes "html")
         ∷ words (codes "a") ∷ end (codes "table") ∷ [])
         ≡ record {
           mode = InBody;
@@ -228,7 +229,7 @@ fn in_table_text()
           tree = codes "<html><head></head><body>a<table> </table></body></html>";
         } }
     // <table> </>a</table>
-    ensures behind_error { view (start (codes "table") ∷ words (codes " ") ∷ error ∷ words (codes "a")
+    ensures after_error { view (start (codes "table") ∷ words (codes " ") ∷ error ∷ words (codes "a")
         ∷ end (codes "table") ∷ [])
         ≡ record {
           mode = InBody;

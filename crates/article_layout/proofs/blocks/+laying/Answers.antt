@@ -6,8 +6,8 @@ use Rattle.article_layout.specs.Lines.{line_of}
 use Rattle.article_layout.specs.Seen.{at_of, lines_of}
 use Rattle.article_layout.specs.Settings.{options_of}
 use Rattle.article_layout.specs.Walks.{laid, laid_items, parted_at}
-use Rattle.article_definitions.specs.Layouts.{how_many, least_of, least_of_items, parted, prefixed, quote_prefix}
-use Rattle.article_definitions.specs.Layouts.{room, room_of_numbers}
+use Rattle.article_definitions.specs.Layouts.{how_many, least_of, least_of_items, parted, prefixed, quote_prefix, room}
+use Rattle.article_definitions.specs.Layouts.{room_of_numbers}
 use Rattle.article_values.specs.Views.{block_view, blocks_view, held, items_view}
 use Rattle.article_values.proofs.VariantViews.{seen_bullets, seen_numbers}
 use Rattle.article_values.proofs.Weights.{blocks_weight, items_weight, one_of, weight, weight_of_bullets}
@@ -49,25 +49,25 @@ lay_block-lay_list-requires-in-Numbers t c =
 pub lay_block-returns-in-Bullets-clause-done : goal.lay_block-returns-in-Bullets-clause-done
 lay_block-returns-in-Bullets-clause-done t c = on_ok_weaker c.lay_list.result (λ h. λ rest.
     ap (λ v. laid (options_of c.args.room.options) c.args.room.width (block_view v rest)
-    (at_of c.args.lines.now c.args.behind.now)) c.in-Bullets.is
-    ∙ ap (λ bs. laid (options_of c.args.room.options) c.args.room.width bs (at_of c.args.lines.now c.args.behind.now))
+    (at_of c.args.lines.now c.args.trailing.now)) c.in-Bullets.is
+    ∙ ap (λ bs. laid (options_of c.args.room.options) c.args.room.width bs (at_of c.args.lines.now c.args.trailing.now))
     (seen_bullets c.in-Bullets.items rest)
     ∙ ap (option_and_then (laid (options_of c.args.room.options) c.args.room.width rest))
     (ap (λ xs. laid_items (options_of c.args.room.options) c.args.room.width 2
     (capped (least_of_items (options_of c.args.room.options) (items_view xs) + 2)) None (items_view xs)
-    (parted_at (options_of c.args.room.options) c.args.room.width (at_of c.args.lines.now c.args.behind.now)))
+    (parted_at (options_of c.args.room.options) c.args.room.width (at_of c.args.lines.now c.args.trailing.now)))
     (sym c.as_slice-in-Bullets.ensures.value) ∙ h)) c.lay_list.ensures.done
 
 pub lay_block-returns-in-Bullets-clause-narrow : goal.lay_block-returns-in-Bullets-clause-narrow
 lay_block-returns-in-Bullets-clause-narrow t c = λ e. λ rest.
     ap (λ v. laid (options_of c.args.room.options) c.args.room.width (block_view v rest)
-    (at_of c.args.lines.now c.args.behind.now)) c.in-Bullets.is
-    ∙ ap (λ bs. laid (options_of c.args.room.options) c.args.room.width bs (at_of c.args.lines.now c.args.behind.now))
+    (at_of c.args.lines.now c.args.trailing.now)) c.in-Bullets.is
+    ∙ ap (λ bs. laid (options_of c.args.room.options) c.args.room.width bs (at_of c.args.lines.now c.args.trailing.now))
     (seen_bullets c.in-Bullets.items rest)
     ∙ ap (option_and_then (laid (options_of c.args.room.options) c.args.room.width rest))
     (ap (λ xs. laid_items (options_of c.args.room.options) c.args.room.width 2
     (capped (least_of_items (options_of c.args.room.options) (items_view xs) + 2)) None (items_view xs)
-    (parted_at (options_of c.args.room.options) c.args.room.width (at_of c.args.lines.now c.args.behind.now)))
+    (parted_at (options_of c.args.room.options) c.args.room.width (at_of c.args.lines.now c.args.trailing.now)))
     (sym c.as_slice-in-Bullets.ensures.value) ∙ c.lay_list.ensures.narrow e)
 
 pub lay_block-returns-in_ok-columns-in-Numbers-clause-done :
@@ -85,19 +85,19 @@ lay_block-returns-in_ok-columns-in-Numbers-clause-done t c =
     = c.in_ok-columns-in-Numbers.ensures ∙ ap (room_of_numbers (held c.in-Numbers.first)) many in
     on_ok_weaker c.lay_list-in-Numbers.result (λ h. λ rest.
     ap (λ v. laid (options_of c.args.room.options) c.args.room.width (block_view v rest)
-    (at_of c.args.lines.now c.args.behind.now)) c.in-Numbers.is
-    ∙ ap (λ bs. laid (options_of c.args.room.options) c.args.room.width bs (at_of c.args.lines.now c.args.behind.now))
+    (at_of c.args.lines.now c.args.trailing.now)) c.in-Numbers.is
+    ∙ ap (λ bs. laid (options_of c.args.room.options) c.args.room.width bs (at_of c.args.lines.now c.args.trailing.now))
     (seen_numbers c.in-Numbers.first c.in-Numbers.items rest)
     ∙ ap (option_and_then (laid (options_of c.args.room.options) c.args.room.width rest))
     (ap (λ n. laid_items (options_of c.args.room.options) c.args.room.width n
     (capped (least_of_items (options_of c.args.room.options) (items_view items) + n))
     (Some (held c.in-Numbers.first))
     (items_view items) (parted_at (options_of c.args.room.options) c.args.room.width
-    (at_of c.args.lines.now c.args.behind.now))) (sym columns)
+    (at_of c.args.lines.now c.args.trailing.now))) (sym columns)
     ∙ ap (λ xs. laid_items (options_of c.args.room.options) c.args.room.width c.in_ok-columns-in-Numbers.columns
     (capped (least_of_items (options_of c.args.room.options) (items_view xs)
     + c.in_ok-columns-in-Numbers.columns)) (Some (held c.in-Numbers.first)) (items_view xs)
-    (parted_at (options_of c.args.room.options) c.args.room.width (at_of c.args.lines.now c.args.behind.now)))
+    (parted_at (options_of c.args.room.options) c.args.room.width (at_of c.args.lines.now c.args.trailing.now)))
     (sym c.as_slice-in-Numbers.ensures.value) ∙ h)) c.lay_list-in-Numbers.ensures.done
 
 pub lay_block-returns-in_ok-columns-in-Numbers-clause-narrow :
@@ -115,19 +115,19 @@ lay_block-returns-in_ok-columns-in-Numbers-clause-narrow t c =
     = c.in_ok-columns-in-Numbers.ensures ∙ ap (room_of_numbers (held c.in-Numbers.first)) many in
     λ e. λ rest.
     ap (λ v. laid (options_of c.args.room.options) c.args.room.width (block_view v rest)
-    (at_of c.args.lines.now c.args.behind.now)) c.in-Numbers.is
-    ∙ ap (λ bs. laid (options_of c.args.room.options) c.args.room.width bs (at_of c.args.lines.now c.args.behind.now))
+    (at_of c.args.lines.now c.args.trailing.now)) c.in-Numbers.is
+    ∙ ap (λ bs. laid (options_of c.args.room.options) c.args.room.width bs (at_of c.args.lines.now c.args.trailing.now))
     (seen_numbers c.in-Numbers.first c.in-Numbers.items rest)
     ∙ ap (option_and_then (laid (options_of c.args.room.options) c.args.room.width rest))
     (ap (λ n. laid_items (options_of c.args.room.options) c.args.room.width n
     (capped (least_of_items (options_of c.args.room.options) (items_view items) + n))
     (Some (held c.in-Numbers.first))
     (items_view items) (parted_at (options_of c.args.room.options) c.args.room.width
-    (at_of c.args.lines.now c.args.behind.now))) (sym columns)
+    (at_of c.args.lines.now c.args.trailing.now))) (sym columns)
     ∙ ap (λ xs. laid_items (options_of c.args.room.options) c.args.room.width c.in_ok-columns-in-Numbers.columns
     (capped (least_of_items (options_of c.args.room.options) (items_view xs)
     + c.in_ok-columns-in-Numbers.columns)) (Some (held c.in-Numbers.first)) (items_view xs)
-    (parted_at (options_of c.args.room.options) c.args.room.width (at_of c.args.lines.now c.args.behind.now)))
+    (parted_at (options_of c.args.room.options) c.args.room.width (at_of c.args.lines.now c.args.trailing.now)))
     (sym c.as_slice-in-Numbers.ensures.value) ∙ c.lay_list-in-Numbers.ensures.narrow e)
 
 pub lay_quote-returns-clause-done : goal.lay_quote-returns-clause-done
@@ -136,18 +136,18 @@ lay_quote-returns-clause-done t c =
     let o = options_of c.args.room.options in
     let w = c.args.room.width in
     let seen = blocks_view c.args.blocks.now in
-    let s = at_of c.args.lines.now c.args.behind.now in
-    let inner = at_of c.lay_blocks.new.lines c.lay_blocks.new.behind in
+    let s = at_of c.args.lines.now c.args.trailing.now in
+    let inner = at_of c.lay_blocks.new.lines c.lay_blocks.new.trailing in
     let room_of = c.in_ok-within.within in
     let least : c.saturating_add-least.result ≡ capped (least_of o seen + 2) = search (rules) in
     quoted o w (capped (least_of o seen + 2)) room_of.width (λ within. laid o within seen) s inner
-    (lines_of c.append_behind.new.self)
+    (lines_of c.append_after.new.self)
     (ap (room w 2) (sym least) ∙ c.in_ok-within.ensures.room)
     (ap (λ opts. laid (options_of opts) room_of.width seen (record s { lines = [] }))
     (sym c.in_ok-within.ensures.options)
     ∙ ap (λ ls. laid (options_of room_of.options) room_of.width seen (record s { lines = ls })) (sym c.new-own.ensures)
     ∙ c.in_ok-lay_blocks.ensures.done)
-    (c.in_ok-append_behind.ensures
+    (c.in_ok-append_after.ensures
     ∙ ap (λ ls. ls ++ prefixed o w quote_prefix quote_prefix (map line_of c.into_lines.result.items))
     c.in_ok-part.ensures
     ∙ ap (λ ls. parted o w (lines_of c.args.lines.now)

@@ -25,15 +25,15 @@ decreases-lay_item l = 4 * blocks_weight l.item.now + 2
 
 abbrev pub invariant-lay_blocks-blocks-2 : goal.invariant-lay_blocks-blocks-2
 invariant-lay_blocks-blocks-2 l =
-    laid (options_of l.room.options) l.room.width (blocks_view l.blocks) (at_of l.fn.lines l.fn.behind)
+    laid (options_of l.room.options) l.room.width (blocks_view l.blocks) (at_of l.fn.lines l.fn.trailing)
     ≡ laid (options_of l.room.options) l.room.width (blocks_view (drop l.block-index l.blocks))
-    (at_of l.lines l.behind)
+    (at_of l.lines l.trailing)
 
 abbrev pub invariant-lay_list-items : goal.invariant-lay_list-items
 invariant-lay_list-items l = record {
   room : l.least ≡ capped (least_of_items (options_of l.room.options) (items_view l.items) + l.columns);
   laid : laid_items (options_of l.room.options) l.room.width l.columns l.least l.fn.first
-      (items_view l.items) (parted_at (options_of l.room.options) l.room.width (at_of l.fn.lines l.fn.behind))
+      (items_view l.items) (parted_at (options_of l.room.options) l.room.width (at_of l.fn.lines l.fn.trailing))
       ≡ laid_items (options_of l.room.options) l.room.width l.columns l.least l.number
-      (items_view (drop l.item-index l.items)) (at_of l.lines l.behind);
+      (items_view (drop l.item-index l.items)) (at_of l.lines l.trailing);
 }

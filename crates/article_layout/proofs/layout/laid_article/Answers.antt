@@ -1,6 +1,6 @@
 use Rattle.std.proofs.Common.{◌≡◌, Err, ap, ◌∙◌, map}
 use Rattle.std.proofs.lemmas.Result.{err_from_is_err_and}
-use Rattle.article_layout.specs.Seen.{at_of, lines_of, told, told_of}
+use Rattle.article_layout.specs.Seen.{at_of, lines_of, emitted, emitted_of}
 use Rattle.article_layout.specs.Settings.{options_of}
 use Rattle.article_values.specs.Views.{blocks_view}
 use Rattle.text_footnotes.specs.Links.{all_targets}
@@ -19,8 +19,8 @@ returns-in_err-lay_blocks-clause-narrow c = λ e.
 pub returns-clause-lines : goal.returns-clause-lines
 returns-clause-lines c =
     all_lines (options_of c.args.options) c.args.width (blocks_view c.args.blocks.now) (lines_of c.new-lines.result)
-    (all_targets c.new.result) (at_of c.lay_blocks.new.lines c.lay_blocks.new.behind)
-    (lines_of c.add_footnotes.new.lines) (map told_of c.in_ok-lines.lines.items) c.if-width-eq0.false
+    (all_targets c.new.result) (at_of c.lay_blocks.new.lines c.lay_blocks.new.trailing)
+    (lines_of c.add_footnotes.new.lines) (map emitted_of c.in_ok-lines.lines.items) c.if-width-eq0.false
     c.new-lines.ensures c.new.ensures c.in_ok-lay_blocks.ensures.done
     c.in_ok-add_footnotes.ensures
-    (c.in_ok-lines.ensures ∙ ap (map told) c.into_lines.ensures)
+    (c.in_ok-lines.ensures ∙ ap (map emitted) c.into_lines.ensures)

@@ -2,7 +2,7 @@ use Rattle.std.proofs.Common.{false, not, sym, ap, ◌∙◌, map}
 use Rattle.std.proofs.lemmas.Option.{none-some}
 use Rattle.std.proofs.lemmas.Result.{IfOk-weaker}
 use Rattle.article_definitions.specs.Layouts.{article_lines, stretch_lines, wrap_at}
-use Rattle.article_layout.specs.Seen.{told_of}
+use Rattle.article_layout.specs.Seen.{emitted_of}
 use Rattle.article_layout.specs.Settings.{options_of}
 use Rattle.article_values.specs.Views.{blocks_view}
 use Rattle.text_normal.specs.Letters.{letters_of}
@@ -23,7 +23,7 @@ pub returns-clause-exchange : goal.returns-clause-exchange
 returns-clause-exchange c = λ n changed ms differ found.
     let o = options_of c.args.options in
     IfOk-weaker c.laid_article.result _ _ (λ lines h. exchanged n
-    (article_lines o c.args.width (blocks_view c.args.blocks.now)) (map told_of lines.items) ms h
+    (article_lines o c.args.width (blocks_view c.args.blocks.now)) (map emitted_of lines.items) ms h
     (λ ls e. c.exchange.ensures o c.args.width n (blocks_view c.args.blocks.now) changed ls ms differ e found))
     c.laid_article.ensures.lines
 

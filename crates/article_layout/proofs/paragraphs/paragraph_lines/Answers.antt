@@ -16,11 +16,11 @@ pub returns-in_err-say_inlines-clause-narrow : goal.returns-in_err-say_inlines-c
 returns-in_err-say_inlines-clause-narrow c = λ e.
     let q = err_from_is_err_and c.from_residual.result c.from_residual.ensures.1 in
     let same : c.in_err-say_inlines.field-0.0 ≡ TooNarrow = cc (q.1, q.2, e) in
-    not_said (options_of c.args.room.options) c.args.room.width c.args.behind.now.paragraphs
+    not_said (options_of c.args.room.options) c.args.room.width c.args.trailing.now.paragraphs
     (inlines_view c.args.contents.now)
-    (all_targets c.args.behind.now.targets) (c.calls_of_a_paragraph.ensures (options_of c.args.room.options)
-    c.args.room.width c.args.behind.now.paragraphs
-    (all_targets c.args.behind.now.targets) (inlines_view c.args.contents.now) [] []) (tag_of c.new-outermost.result)
+    (all_targets c.args.trailing.now.targets) (c.calls_of_a_paragraph.ensures (options_of c.args.room.options)
+    c.args.room.width c.args.trailing.now.paragraphs
+    (all_targets c.args.trailing.now.targets) (inlines_view c.args.contents.now) [] []) (tag_of c.new-outermost.result)
     (laid_of tag_of c.new-block.result) (ap (map (λ _. tt)) c.new-outermost.ensures.items) c.new-block.ensures.laid
     (c.say_inlines.ensures.narrow (c.in_err-say_inlines.was ∙ ap Err same))
 
@@ -28,11 +28,11 @@ pub returns-in_err-flush-clause-narrow : goal.returns-in_err-flush-clause-narrow
 returns-in_err-flush-clause-narrow c = λ e.
     let q = err_from_is_err_and c.from_residual-in_err-flush.result c.from_residual-in_err-flush.ensures.1 in
     let same : c.in_err-flush.field-0.0 ≡ TooNarrow = cc (q.1, q.2, e) in
-    not_flushed (options_of c.args.room.options) c.args.room.width c.args.behind.now.paragraphs
+    not_flushed (options_of c.args.room.options) c.args.room.width c.args.trailing.now.paragraphs
     (inlines_view c.args.contents.now)
-    (all_targets c.args.behind.now.targets) (c.calls_of_a_paragraph.ensures (options_of c.args.room.options)
-    c.args.room.width c.args.behind.now.paragraphs
-    (all_targets c.args.behind.now.targets) (inlines_view c.args.contents.now) [] []) (tag_of c.new-outermost.result)
+    (all_targets c.args.trailing.now.targets) (c.calls_of_a_paragraph.ensures (options_of c.args.room.options)
+    c.args.room.width c.args.trailing.now.paragraphs
+    (all_targets c.args.trailing.now.targets) (inlines_view c.args.contents.now) [] []) (tag_of c.new-outermost.result)
     (laid_of tag_of c.new-block.result) (said_of c.say_inlines.new.block c.say_inlines.new.targets)
     (ap (map (λ _. tt)) c.new-outermost.ensures.items) c.new-block.ensures.laid c.in_ok-say_inlines.ensures.done
     (ap (λ m. flush m (tag_of c.new-outermost.result) (laid_of tag_of c.say_inlines.new.block)) (sym c.measure.ensures)
@@ -40,11 +40,11 @@ returns-in_err-flush-clause-narrow c = λ e.
 
 pub returns-clause-lines : goal.returns-clause-lines
 returns-clause-lines c =
-    lines_found (options_of c.args.room.options) c.args.room.width c.args.behind.now.paragraphs
+    lines_found (options_of c.args.room.options) c.args.room.width c.args.trailing.now.paragraphs
     (inlines_view c.args.contents.now)
-    (all_targets c.args.behind.now.targets) (c.calls_of_a_paragraph.ensures (options_of c.args.room.options)
-    c.args.room.width c.args.behind.now.paragraphs
-    (all_targets c.args.behind.now.targets) (inlines_view c.args.contents.now) [] []) (tag_of c.new-outermost.result)
+    (all_targets c.args.trailing.now.targets) (c.calls_of_a_paragraph.ensures (options_of c.args.room.options)
+    c.args.room.width c.args.trailing.now.paragraphs
+    (all_targets c.args.trailing.now.targets) (inlines_view c.args.contents.now) [] []) (tag_of c.new-outermost.result)
     (laid_of tag_of c.new-block.result) (said_of c.say_inlines.new.block c.say_inlines.new.targets)
     (laid_of tag_of c.flush.new.self)
     (map (laid_line_of tag_of) c.in_ok-laid.laid.items) (map line_of c.in_ok-lines.lines.items)
@@ -56,8 +56,8 @@ returns-clause-lines c =
 
 pub returns-clause-targets : goal.returns-clause-targets
 returns-clause-targets c =
-    targets_found (options_of c.args.room.options) c.args.room.width c.args.behind.now.paragraphs
+    targets_found (options_of c.args.room.options) c.args.room.width c.args.trailing.now.paragraphs
     (inlines_view c.args.contents.now)
-    (all_targets c.args.behind.now.targets) (tag_of c.new-outermost.result) (laid_of tag_of c.new-block.result)
+    (all_targets c.args.trailing.now.targets) (tag_of c.new-outermost.result) (laid_of tag_of c.new-block.result)
     (said_of c.say_inlines.new.block c.say_inlines.new.targets) (ap (map (λ _. tt)) c.new-outermost.ensures.items)
     c.new-block.ensures.laid c.in_ok-say_inlines.ensures.done

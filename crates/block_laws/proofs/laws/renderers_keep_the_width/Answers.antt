@@ -24,8 +24,8 @@ returns g c =
           c.calls_keep_the_width.ensures.add_horizontal_border m tag width b new kept h narrow is;
       border_taken = λ m new b h fits. c.calls_keep_the_width.ensures.add_border m new b h fits;
       slashes_taken = λ m tag width b h narrow. c.calls_keep_the_width.ensures.add_slashes m tag width b h narrow;
-      block_taken = λ other m tag first following lines b h fit here behind.
-          c.calls_keep_the_width.ensures.add_block other m tag first following lines b h fit here behind;
+      block_taken = λ other m tag first following lines b h fit here trailing.
+          c.calls_keep_the_width.ensures.add_block other m tag first following lines b h fit here trailing;
       row_taken = λ m tag draws collapse cells b flushed new kept h all is narrow added.
           c.calls_keep_the_width.ensures.add_row m tag draws collapse cells b flushed new kept h all is narrow added;
     } in

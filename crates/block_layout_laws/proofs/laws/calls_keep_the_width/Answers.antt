@@ -3,11 +3,11 @@ use Rattle.std.proofs.lemmas.Option.{MatchOption-at_some}
 use Rattle.text_lines.specs.Tagged.{line_columns}
 use Rattle.text_borders.specs.Lines.{line_shown}
 use Rattle.block_layout_laws.specs.LayoutLaws.{IsWithin}
-use Rattle.block_layout_laws.proofs.WidthLemmas.{TextLaws, nothing_within, flushed, lines_added, empty_line_added}
-use Rattle.block_layout_laws.proofs.WidthLemmas.{block_started, table_started, block_ended, awaited_started, text_added}
-use Rattle.block_layout_laws.proofs.WidthLemmas.{marked, line_broken}
-use Rattle.block_layout_laws.proofs.RowWidths.{BorderLaws, RowLaws, border_added, horizontal_added, slashes_added}
-use Rattle.block_layout_laws.proofs.RowWidths.{block_added, row_of_flushed, lines_finished}
+use Rattle.block_layout_laws.proofs.WidthLemmas.{TextLaws, awaited_started, block_ended, block_started}
+use Rattle.block_layout_laws.proofs.WidthLemmas.{empty_line_added, flushed, line_broken, lines_added, marked}
+use Rattle.block_layout_laws.proofs.WidthLemmas.{nothing_within, table_started, text_added}
+use Rattle.block_layout_laws.proofs.RowWidths.{BorderLaws, RowLaws, block_added, border_added, horizontal_added}
+use Rattle.block_layout_laws.proofs.RowWidths.{lines_finished, row_of_flushed, slashes_added}
 use Rattle.block_layout_laws.proofs.laws.calls_keep_the_width.Goals as goal
 
 pub returns : goal.returns
@@ -62,8 +62,8 @@ returns g c =
           MatchOption-at_some ⊤ (IsWithin m) new is (horizontal_added laws m tag width b narrow kept h);
       add_border = λ m new b h fits. border_added m new b fits h;
       add_slashes = λ m tag width b h narrow. slashes_added m tag width b narrow h;
-      add_block = λ other m tag first following lines b h fit here behind.
-          block_added laws borders other m tag first following lines b here behind fit h;
+      add_block = λ other m tag first following lines b h fit here trailing.
+          block_added laws borders other m tag first following lines b here trailing fit h;
       add_row = λ m tag draws collapse cells b flushed new kept h all is wide added.
           row_of_flushed laws rows m tag draws collapse cells b flushed new kept h all is wide added;
       finished_lines = λ m tag b lines kept h is.

@@ -1,6 +1,7 @@
 use Rattle.std.proofs.Common.{refl}
-use Rattle.block_layout_laws.proofs.HangingLemmas.{flush_hangs, empty_line_hangs, block_hangs, table_hangs, awaited_hangs}
-use Rattle.block_layout_laws.proofs.HangingLemmas.{text_hangs, break_hangs, border_hangs, other_hangs, row_hangs}
+use Rattle.block_layout_laws.proofs.HangingLemmas.{awaited_hangs, block_hangs, border_hangs, break_hangs}
+use Rattle.block_layout_laws.proofs.HangingLemmas.{empty_line_hangs, flush_hangs, other_hangs, row_hangs, table_hangs}
+use Rattle.block_layout_laws.proofs.HangingLemmas.{text_hangs}
 use Rattle.block_layout_laws.proofs.laws.cells_hang_until_a_row.Goals as goal
 
 pub returns : goal.returns

@@ -1,6 +1,6 @@
-use Rattle.block_layout_laws.proofs.OverflowLemmas.{flushes, texts_allow, adds_empty_line, starts_block, starts_table}
-use Rattle.block_layout_laws.proofs.OverflowLemmas.{starts_awaited, adds_text, breaks_line, adds_horizontal, adds_block}
-use Rattle.block_layout_laws.proofs.OverflowLemmas.{adds_row, finishes, marks}
+use Rattle.block_layout_laws.proofs.OverflowLemmas.{adds_block, adds_empty_line, adds_horizontal, adds_row, adds_text}
+use Rattle.block_layout_laws.proofs.OverflowLemmas.{breaks_line, finishes, flushes, marks, starts_awaited, starts_block}
+use Rattle.block_layout_laws.proofs.OverflowLemmas.{starts_table, texts_allow}
 use Rattle.block_layout_laws.proofs.laws.overflow_never_refuses.Goals as goal
 
 pub returns-clause-nothing : goal.returns-clause-nothing

@@ -1,9 +1,9 @@
-use Rattle.block_layout_laws.proofs.LaidRetagged.{flush_retagged, text_lines_retagged, empty_line_retagged}
-use Rattle.block_layout_laws.proofs.LaidRetagged.{start_block_retagged, start_table_retagged, start_awaited_retagged}
-use Rattle.block_layout_laws.proofs.LaidRetagged.{add_text_retagged, mark_retagged, break_line_retagged}
-use Rattle.block_layout_laws.proofs.LaidRetagged.{nothing_retagged, add_border_retagged, horizontal_retagged}
-use Rattle.block_layout_laws.proofs.LaidRetagged.{slashes_retagged, add_block_retagged, add_row_retagged}
-use Rattle.block_layout_laws.proofs.LaidRetagged.{finished_lines_retagged}
+use Rattle.block_layout_laws.proofs.LaidRetagged.{add_block_retagged, add_border_retagged, add_row_retagged}
+use Rattle.block_layout_laws.proofs.LaidRetagged.{add_text_retagged, break_line_retagged, empty_line_retagged}
+use Rattle.block_layout_laws.proofs.LaidRetagged.{finished_lines_retagged, flush_retagged, horizontal_retagged}
+use Rattle.block_layout_laws.proofs.LaidRetagged.{mark_retagged, nothing_retagged, slashes_retagged}
+use Rattle.block_layout_laws.proofs.LaidRetagged.{start_awaited_retagged, start_block_retagged, start_table_retagged}
+use Rattle.block_layout_laws.proofs.LaidRetagged.{text_lines_retagged}
 use Rattle.block_layout_laws.proofs.retagging.calls_heed_no_tags.Goals as goal
 
 pub returns-clause-flush : goal.returns-clause-flush

@@ -2,8 +2,7 @@ use Rattle.std.proofs.Common.{◌≡◌, map, ap, ◌∙◌, length, chars, stri
 use Rattle.std.proofs.lemmas.Str.{chars-nil}
 use Rattle.std.specs.Vec.Iter.{into_iter_items}
 use Rattle.text_borders.specs.Lines.{render_line_of}
-use Rattle.block_trait.proofs.TextLemmas.{no_items}
-use Rattle.block_trait.proofs.TextLemmas.{text_begun, text_more, text_whole}
+use Rattle.block_trait.proofs.TextLemmas.{no_items, text_begun, text_more, text_whole}
 use Rattle.block_trait.proofs.texts.text_of_lines.Goals as goal
 
 pub loop-line-init : goal.loop-line-init

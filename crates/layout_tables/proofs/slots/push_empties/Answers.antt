@@ -1,7 +1,7 @@
 use Rattle.std.proofs.Common.{◌≡◌, arith, ap, rules, sym, true, ◌∙◌}
 use Rattle.std.proofs.lemmas.List.{get_or_read}
 use Rattle.block_renderer.specs.Seen.{marking, sub_of}
-use Rattle.layout_state.specs.Laying.{Laying}
+use Rattle.layout_state.specs.LayoutState.{LayoutState}
 use Rattle.layout_state.specs.Seen.{widths_seen}
 use Rattle.layout_tables.specs.Tables.{empty_slot, is_empty_slot}
 use Rattle.layout_tables.proofs.TableSlotLemmas.{cell_more, empty_filled, made_whole, no_empties_at, no_empties_end}
@@ -18,7 +18,7 @@ slots-preserved g c =
       made = λ tag. empty_filled (empty_slot (marking g.D.TextDecorator.view tag) (widths_seen c.args.widths.now))
           is_empty_slot _ _ c.index-in-slots.result.now _ _ _ c.slots.slots.slots.items c.slots.slots.next
           c.index-in-slots.ensures (omega arith) empty
-          (ap (λ (l : Laying _ _). l.parts.current) c.slots.invariant.stays) (c.in_ok-push_empty.ensures.made tag)
+          (ap (λ (l : LayoutState _ _). l.parts.current) c.slots.invariant.stays) (c.in_ok-push_empty.ensures.made tag)
           (c.slots.invariant.made tag);
       left = sym (cell_more is_empty_slot c.slots.slots.slots.items c.slots.slots.next
           c.index-in-slots.result.now c.index-in-slots.ensures (omega arith) empty) ∙ c.slots.invariant.left;

@@ -1,6 +1,6 @@
 use Rattle.std.proofs.Common.{arith, ap, ◌∙◌}
 use Rattle.block_renderer.specs.Seen.{marking, sub_of}
-use Rattle.layout_state.specs.Laying.{Laying}
+use Rattle.layout_state.specs.LayoutState.{LayoutState}
 use Rattle.layout_state.specs.Seen.{widths_seen}
 use Rattle.layout_tables.specs.Tables.{empty_slot}
 use Rattle.table_widths.specs.Slots.{has_columns}
@@ -11,7 +11,7 @@ pub slots-preserved : goal.slots-preserved
 slots-preserved g c = record {
   made = λ tag. filled_kept (empty_slot (marking g.D.TextDecorator.view tag) (widths_seen c.args.widths.now))
       has_columns _ _ c.index.result.now _ _ _ c.args.slots.now.slots.items c.slots.at c.index.ensures (omega arith)
-      (ap (λ (l : Laying _ _). l.parts.current) c.slots.invariant.stays) (c.in_ok-push_kept.ensures.made tag)
+      (ap (λ (l : LayoutState _ _). l.parts.current) c.slots.invariant.stays) (c.in_ok-push_kept.ensures.made tag)
       (c.slots.invariant.made tag);
   stays = c.in_ok-push_kept.ensures.stays ∙ c.slots.invariant.stays;
   works = c.in_ok-push_kept.ensures.works;

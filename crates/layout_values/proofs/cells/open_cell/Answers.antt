@@ -2,12 +2,12 @@ use Rattle.block_renderer.specs.Seen.{marking}
 use Rattle.layout_state.proofs.CallLemmas.{if_ok_by}
 use Rattle.layout_state.specs.Seen.{laying_of, made_of, slots_left, widths_seen}
 use Rattle.table_widths.specs.Tables.{rows_left}
-use Rattle.layout_values.proofs.TableOpenLemmas.{cell_behind}
+use Rattle.layout_values.proofs.TableOpenLemmas.{cell_after}
 use Rattle.layout_values.proofs.cells.open_cell.Goals as goal
 
 pub returns-clause-opened : goal.returns-clause-opened
 returns-clause-opened g c = if_ok_by _ _ c.open_slot.result (λ x h. λ tag p nodes w inside.
-    cell_behind (marking g.D.TextDecorator.view tag) (widths_seen c.args.rows.widths) (rows_left c.args.rows.rows)
+    cell_after (marking g.D.TextDecorator.view tag) (widths_seen c.args.rows.widths) (rows_left c.args.rows.rows)
     c.args.rows.fragments.items (slots_left c.args.slots) (slots_left c.push_empties.new.slots)
     (made_of g.D.Annotation.EqualCopy.seen g.D.TextDecorator.view.held c.args.made.items)
     (made_of g.D.Annotation.EqualCopy.seen g.D.TextDecorator.view.held c.push_empties.new.made.items) inside
@@ -18,7 +18,7 @@ returns-clause-opened g c = if_ok_by _ _ c.open_slot.result (λ x h. λ tag p no
 
 pub returns-clause-narrow : goal.returns-clause-narrow
 returns-clause-narrow g c = λ e. λ tag p inside.
-    cell_behind (marking g.D.TextDecorator.view tag) (widths_seen c.args.rows.widths) (rows_left c.args.rows.rows)
+    cell_after (marking g.D.TextDecorator.view tag) (widths_seen c.args.rows.widths) (rows_left c.args.rows.rows)
     c.args.rows.fragments.items (slots_left c.args.slots) (slots_left c.push_empties.new.slots)
     (made_of g.D.Annotation.EqualCopy.seen g.D.TextDecorator.view.held c.args.made.items)
     (made_of g.D.Annotation.EqualCopy.seen g.D.TextDecorator.view.held c.push_empties.new.made.items) inside

@@ -1,5 +1,5 @@
 use Rattle.std.proofs.Common.{ap}
-use Rattle.layout_state.specs.Laying.{in_around}
+use Rattle.layout_state.specs.LayoutState.{in_around}
 use Rattle.layout_state.specs.declared.around.Around.TheVariants.{Items}
 use Rattle.layout_values.proofs.OpenLemmas.{items_open}
 use Rattle.layout_values.proofs.lists.hold_items.Goals as goal

@@ -6,7 +6,8 @@ use Rattle.text_pieces.specs.declared.fault.BlockError.TheVariants.{TooNarrow}
 use Rattle.block_renderer.specs.Seen.{marking, sub_of}
 use Rattle.layout_state.specs.Seen.{laying_of, place_of, widths_seen}
 use Rattle.render_sizes.specs.Extents.{capped}
-use Rattle.layout_tables.proofs.TableStepLemmas.{width_capped}
+use Rattle.layout_tables.proofs.TableStepLemmas.{border_keeps, fence_keeps, never_bordered, never_fenced, never_starts}
+use Rattle.layout_tables.proofs.TableStepLemmas.{no_table, says_keeps, table_begins, table_by, width_capped}
 use Rattle.layout_tables.specs.Tables.{rows_of, table_widths}
 use Rattle.table_grid.specs.declared.columns.Column.{Column}
 use Rattle.table_widths.specs.Tables.{table_seen}
@@ -14,8 +15,6 @@ use Rattle.layout_values.specs.Seen.{open_table_of}
 use Rattle.layout_values.proofs.OpenLemmas.{box_waits}
 use Rattle.layout_values.proofs.StepLemmas.{nothing_waits}
 use Rattle.layout_values.proofs.TableOpenLemmas.{table_waits}
-use Rattle.layout_tables.proofs.TableStepLemmas.{border_keeps, fence_keeps, never_bordered, never_fenced, never_starts}
-use Rattle.layout_tables.proofs.TableStepLemmas.{no_table, says_keeps, table_begins, table_by}
 use Rattle.layout_values.proofs.tables.hold_table.Goals as goal
 
 pub returns-then-is_empty-clause-opened : goal.returns-then-is_empty-clause-opened

@@ -2,7 +2,7 @@ use Rattle.std.proofs.Common.{[], append-nil, arith, ap, sym, ◌∙◌}
 use Rattle.std.proofs.lemmas.List.Elements.{All-nil}
 use Rattle.block_renderer.specs.Seen.{marking}
 use Rattle.layout_state.proofs.CallLemmas.{if_ok_by}
-use Rattle.layout_state.specs.Laying.{in_table}
+use Rattle.layout_state.specs.LayoutState.{in_table}
 use Rattle.layout_state.specs.Seen.{laying_of, place_of, widths_seen}
 use Rattle.layout_state.specs.declared.place.TablePlace.TheVariants.{Rows}
 use Rattle.render_values.specs.declared.info.RenderInfo.{RenderInfo}

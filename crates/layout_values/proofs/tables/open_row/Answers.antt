@@ -1,16 +1,16 @@
-use Rattle.std.proofs.Common.{◌≡◌, [], ◌∷◌, ◌++◌, Err, ap, append-nil, arith, false, length-append, refl, rules, sym}
-use Rattle.std.proofs.Common.{true, ◌∙◌}
+use Rattle.std.proofs.Common.{◌≡◌, [], ◌∷◌, ◌++◌, ◌∙◌, Err, ap, append-nil, arith, false, length-append, refl, rules}
+use Rattle.std.proofs.Common.{sym, true}
 use Rattle.std.proofs.lemmas.List.Elements.{All-nil}
 use Rattle.std.proofs.lemmas.Result.{err_from_is_err_and}
 use Rattle.text_pieces.specs.declared.fault.BlockError.TheVariants.{TooNarrow}
 use Rattle.block_renderer.specs.Seen.{marking}
-use Rattle.layout_state.specs.Laying.{in_turn}
+use Rattle.layout_state.specs.LayoutState.{in_turn}
 use Rattle.layout_values.specs.Lay.{styled}
 use Rattle.layout_values.specs.Seen.{WorksOutside, maybe, waiting_of}
 use Rattle.layout_tables.specs.Tables.{row_ended}
-use Rattle.layout_values.specs.declared.waiting.Waiting.TheVariants.{RowEnds}
-use Rattle.layout_values.proofs.TableOpenLemmas.{all_and_one, pushed_both, row_left_out, row_let_in, row_opens, some_all}
-use Rattle.layout_values.proofs.TableOpenLemmas.{some_few}
+use Rattle.layout_values.specs.declared.waiting.Continuation.TheVariants.{RowEnds}
+use Rattle.layout_values.proofs.TableOpenLemmas.{all_and_one, pushed_both, row_left_out, row_let_in, row_opens}
+use Rattle.layout_values.proofs.TableOpenLemmas.{some_all, some_few}
 use Rattle.layout_values.proofs.tables.open_row.Goals as goal
 
 pub returns-then-not-shown-clause-opened : goal.returns-then-not-shown-clause-opened

@@ -3,7 +3,7 @@ use Rattle.std.specs.Option.{option_and_then}
 use Rattle.block_renderer.specs.Seen.{marking}
 use Rattle.layout_state.specs.Seen.{laying_of}
 use Rattle.layout_values.specs.Seen.{all_waiting, content_seen, maybe, where_entered}
-use Rattle.layout_values.specs.Waiting.{unwound}
+use Rattle.layout_values.specs.Continuation.{unwound}
 use Rattle.layout_values.proofs.OpenLemmas.{held_alone, table_holds}
 use Rattle.layout_values.proofs.values.hold.Goals as goal
 

@@ -6,8 +6,8 @@ use Rattle.text_pieces.specs.declared.fault.BlockError.TheVariants.{TooNarrow}
 use Rattle.block_renderer.specs.Seen.{marking}
 use Rattle.layout_state.specs.Seen.{laying_of}
 use Rattle.layout_values.specs.Seen.{WorksOutside, all_waiting, content_seen, maybe}
-use Rattle.layout_values.specs.Waiting.{unwound, value_ends}
-use Rattle.layout_values.specs.declared.waiting.Waiting.TheVariants.{ValueEnds}
+use Rattle.layout_values.specs.Continuation.{unwound, value_ends}
+use Rattle.layout_values.specs.declared.waiting.Continuation.TheVariants.{ValueEnds}
 use Rattle.layout_values.proofs.OpenLemmas.{shown_alone, shown_opens}
 use Rattle.layout_values.proofs.ValueLemmas.{any_measure, maybe_all, maybe_few, no_begin, no_follow, no_hold, no_lead}
 use Rattle.layout_values.proofs.ValueLemmas.{two_on}

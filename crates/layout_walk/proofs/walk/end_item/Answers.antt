@@ -2,7 +2,7 @@ use Rattle.std.proofs.Common.{◌≡◌, Err, ap, chars, refl, string_bytes}
 use Rattle.std.proofs.lemmas.Result.{err_from_is_err_and}
 use Rattle.text_pieces.specs.declared.fault.BlockError.TheVariants.{TooNarrow}
 use Rattle.block_renderer.specs.Seen.{marking, sub_of}
-use Rattle.layout_state.specs.Laying.{goes_on, part_ended}
+use Rattle.layout_state.specs.LayoutState.{goes_on, part_ended}
 use Rattle.layout_state.proofs.StepLemmas.{turn_off, turn_on}
 use Rattle.layout_values.specs.Seen.{open_item_of}
 use Rattle.layout_values.proofs.OpenLemmas.{part_by, unboxed}

@@ -14,8 +14,8 @@ use Rattle.layout_walk.proofs.SegmentLemmas.{first_node}
 use Rattle.layout_walk.proofs.WalkLemmas.{never_enters}
 use Rattle.layout_walk.proofs.walk.enter.Goals as goal
 
-pub overflow_add-behind : goal.overflow_add-behind
-overflow_add-behind g c = omega (
+pub overflow_add-trailing : goal.overflow_add-trailing
+overflow_add-trailing g c = omega (
   arith,
   (first_node c.args.nodes.now c.args.sizes.now g.w c.args.place.at c.args.place.end c.index-nodes-place.result
       c.index-nodes-place.is c.requires.1.1.1.0 c.requires.1.1.1.1).fits,

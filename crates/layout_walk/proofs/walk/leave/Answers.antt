@@ -5,7 +5,7 @@ use Rattle.block_renderer.specs.Seen.{marking}
 use Rattle.layout_state.specs.Seen.{laying_of}
 use Rattle.layout_values.specs.Lay.{lay}
 use Rattle.layout_values.specs.Seen.{waiting_of}
-use Rattle.layout_values.specs.Waiting.{undone}
+use Rattle.layout_values.specs.Continuation.{undone}
 use Rattle.layout_walk.proofs.SegmentLemmas.{nothing_here}
 use Rattle.layout_walk.proofs.walk.leave.Goals as goal
 

@@ -10,7 +10,7 @@ use Rattle.render_values.specs.Arena.{values_of}
 use Rattle.layout_values.specs.Lay.{lay}
 use Rattle.layout_state.specs.Seen.{laying_of}
 use Rattle.layout_values.specs.Seen.{IsReady, all_waiting, waiting_of}
-use Rattle.layout_values.specs.Waiting.{segment, unwound}
+use Rattle.layout_values.specs.Continuation.{segment, unwound}
 use Rattle.layout_walk.proofs.EnterLemmas.{front_ready, left_load}
 use Rattle.layout_walk.proofs.SegmentLemmas.{all_here, all_sound, nothing_here}
 use Rattle.layout_walk.proofs.WalkLemmas.{begins_here, ends_here, leaves, never_leaves, nothing_popped}

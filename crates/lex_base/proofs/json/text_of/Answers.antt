@@ -1,11 +1,11 @@
 use Rattle.std.proofs.Common.{◌<◌, ◌∙◌, sym, arith, string_bytes, length}
 use Rattle.std.proofs.lemmas.Bool.Decides.{nat_tests}
 use Rattle.std.proofs.lemmas.Str.{IsUtf8-string_bytes}
-use Rattle.lex_base.proofs.JsonLemmas.{no_values, many_values, few_values, text_and_all, text_and_rest-more}
-use Rattle.lex_base.proofs.JsonLemmas.{text_and_rest-none, text_and_rest-end}
+use Rattle.lex_base.proofs.JsonLemmas.{few_values, many_values, no_values, text_and_all, text_and_rest-end}
+use Rattle.lex_base.proofs.JsonLemmas.{text_and_rest-more, text_and_rest-none}
 use Rattle.lex_base.proofs.json.text_of.Goals as goal
-use Rattle.lex_base.proofs.json.text_of.Goals.{then-is_empty-via-then-is_empty}
 use Rattle.lex_base.proofs.json.text_of.Goals.{then-is_empty-via-else-is_empty+then-numbers-gt2}
+use Rattle.lex_base.proofs.json.text_of.Goals.{then-is_empty-via-then-is_empty}
 
 pub returns-then-is_empty : goal.returns-then-is_empty
 returns-then-is_empty c = elim c.then-is_empty.branch [

@@ -1,8 +1,8 @@
 use Rattle.std.proofs.Common.{chars, ap, sym, ◌∙◌, not, ◌&&◌, eqb}
 use Rattle.std.proofs.lemmas.Bool.{eq-eqb, ne_eqb}
 use Rattle.std.proofs.lemmas.Option.{MatchOption-at_none}
-use Rattle.lex_base.proofs.NameTests.{no_chars, one_char, two_chars, three_chars, one_value, two_value}
-use Rattle.lex_base.proofs.NameTests.{three_value, none_value}
+use Rattle.lex_base.proofs.NameTests.{no_chars, none_value, one_char, one_value, three_chars, three_value, two_chars}
+use Rattle.lex_base.proofs.NameTests.{two_value}
 use Rattle.lex_base.proofs.table.is_value.Goals as goal
 
 pub returns-in-Some-None-None : goal.returns-in-Some-None-None

@@ -1,6 +1,6 @@
 use Rattle.std.proofs.Common.{◌≡◌, ◌++◌, take, sym, ap, ◌∙◌, string_bytes, arith}
 use Rattle.std.proofs.lemmas.Str.{IsUtf8-string_bytes}
-use Rattle.page_decoding.proofs.DecoderReads.{HasRead-valid_run, HasRead-one_fault, HasRead-to_end, unfinished-past_run}
+use Rattle.page_decoding.proofs.DecoderReads.{HasRead-one_fault, HasRead-to_end, HasRead-valid_run, unfinished-past_run}
 use Rattle.page_decoding.proofs.DecoderReads.{within-fault}
 use Rattle.page_decoding.proofs.decoder.read.Goals as goal
 

@@ -1,5 +1,5 @@
-use Rattle.std.proofs.Common.{rules, ◌≡◌, ◌+◌, ◌-◌, ◌≤◌, ◌++◌, length, take, drop, string_bytes, sym, ap, ◌∙◌, arith}
-use Rattle.std.proofs.Common.{zero-add, subst, length-take-le}
+use Rattle.std.proofs.Common.{◌≡◌, ◌+◌, ◌-◌, ◌≤◌, ◌++◌, ◌∙◌, ap, arith, drop, length, length-take-le, rules}
+use Rattle.std.proofs.Common.{string_bytes, subst, sym, take, zero-add}
 use Rattle.page_decoding.proofs.DecoderReads.{HasRead, joined-is, HasRead-short, HasRead-long}
 use Rattle.page_decoding.proofs.decoder.read_piece.Goals as goal
 use Rattle.page_decoding.proofs.decoder.read_piece.Goals.{then-taken-held_len, else-taken-held_len+in_ok-read}

@@ -1,6 +1,5 @@
-use Rattle.std.proofs.Common.{chars, ◌∙◌}
+use Rattle.std.proofs.Common.{◌∙◌, chars, rules}
 use borrow.Author.Tests.{tests}
-use Rattle.std.proofs.Common.{rules}
 use Rattle.std.proofs.lemmas.Iterator.{YieldsList-from_chars}
 use Rattle.std.proofs.lemmas.Iterator.Search.{all_from_yields_List}
 use Rattle.rules_table.specs.Rows.{is_white_space}

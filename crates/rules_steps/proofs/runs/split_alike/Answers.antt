@@ -52,8 +52,8 @@ returns-clause-rest c =
     (elim c.match-next.branch [
       | in-None w ↦
           (split_ends (is_alike c.args.is_space) _ _ _ c.utf8.text c.split.invariant.so_far
-          w.in-None.ensures.steps.0.0).behind
+          w.in-None.ensures.steps.0.0).trailing
       | in-Some+then-not-is_alike w ↦
           (split_stops (is_alike c.args.is_space) _ _ _ c.utf8.text c.split.invariant.so_far _ w.in-Some.c
-          w.in-Some.ensures.steps.0 (sym w.is_alike.ensures ∙ w.if-not-is_alike.true)).behind
+          w.in-Some.ensures.steps.0 (sym w.is_alike.ensures ∙ w.if-not-is_alike.true)).trailing
     ])

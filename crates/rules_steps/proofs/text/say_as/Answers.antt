@@ -2,8 +2,8 @@ use Rattle.std.proofs.Common.{◌∙◌, ap, chars, fold, refl}
 use Rattle.rules_table.specs.Actions.{act, keep_pending}
 use Rattle.rules_actions.specs.Parsed.{parsed}
 use Rattle.rules_table.specs.State.{State}
-use Rattle.rules_steps.proofs.TextLemmas.{as_dropped, as_in_body, as_inserted, as_kept, flag_kept, flag_reconstructed}
-use Rattle.rules_steps.proofs.TextLemmas.{flag_said, flag_told}
+use Rattle.rules_steps.proofs.TextLemmas.{as_dropped, as_in_body, as_inserted, as_kept, flag_emitted, flag_kept}
+use Rattle.rules_steps.proofs.TextLemmas.{flag_reconstructed, flag_said}
 use Rattle.rules_steps.proofs.text.say_as.Goals as goal
 
 pub returns-in-Dropped-clause-seen : goal.returns-in-Dropped-clause-seen
@@ -49,11 +49,11 @@ returns-in-InBody-clause-seen g c =
     let old : State = parsed tree.view page.kept page.tree.held page.tree.sink in
     let kept = c.reconstruct.new.self in
     let between : State = parsed tree.view kept.kept kept.tree.held kept.tree.sink in
-    let made = c.say_told.new.page in
+    let made = c.say_emitted.new.page in
     let new : State = parsed tree.view made.kept made.tree.held made.tree.sink in
     as_in_body c.runs_of_text.ensures c.args.class cs old between new c.in-InBody.is c.requires.calm c.requires.mode
     c.requires.all c.requires.some
-    c.in_ok-reconstruct-in-InBody.ensures.seen c.in_ok-say_told-in-InBody.ensures.seen
+    c.in_ok-reconstruct-in-InBody.ensures.seen c.in_ok-say_emitted-in-InBody.ensures.seen
 
 pub returns-in-InBody-clause-calm : goal.returns-in-InBody-clause-calm
 returns-in-InBody-clause-calm g c =
@@ -63,11 +63,11 @@ returns-in-InBody-clause-calm g c =
     let old : State = parsed tree.view page.kept page.tree.held page.tree.sink in
     let kept = c.reconstruct.new.self in
     let between : State = parsed tree.view kept.kept kept.tree.held kept.tree.sink in
-    let made = c.say_told.new.page in
+    let made = c.say_emitted.new.page in
     let new : State = parsed tree.view made.kept made.tree.held made.tree.sink in
     record {
-      ready = c.in_ok-say_told-in-InBody.ensures.ready;
-      flag = flag_told cs between new c.in_ok-say_told-in-InBody.ensures.seen
+      ready = c.in_ok-say_emitted-in-InBody.ensures.ready;
+      flag = flag_emitted cs between new c.in_ok-say_emitted-in-InBody.ensures.seen
           (flag_reconstructed old between c.in_ok-reconstruct-in-InBody.ensures.seen c.requires.calm.flag);
     }
 

@@ -2,8 +2,8 @@ use Rattle.std.proofs.Common.{chars, ap, ◌∙◌}
 use Rattle.rules_actions.specs.Parsed.{parsed}
 use Rattle.rules_table.specs.State.{State}
 use Rattle.rules_steps.specs.Runs.{is_alike}
-use Rattle.rules_table_laws.specs.TextRuns.{told, took}
-use Rattle.rules_steps.proofs.TextLemmas.{as_foreign, behind_less, front_all, none_left, none_less, took_front}
+use Rattle.rules_table_laws.specs.TextRuns.{emitted, took}
+use Rattle.rules_steps.proofs.TextLemmas.{as_foreign, after_less, front_all, none_left, none_less, took_front}
 use Rattle.rules_steps.proofs.text.take_front.Goals as goal
 
 pub returns-then-not-takes_text_here-clause-seen : goal.returns-then-not-takes_text_here-clause-seen
@@ -12,11 +12,11 @@ returns-then-not-takes_text_here-clause-seen g c =
     let cs = chars c.args.text.now in
     let page = c.args.page.now in
     let old : State = parsed tree.view page.kept page.tree.held page.tree.sink in
-    let made = c.say_told.new.page in
+    let made = c.say_emitted.new.page in
     let new : State = parsed tree.view made.kept made.tree.held made.tree.sink in
     none_left cs old new (as_foreign c.runs_of_text.ensures cs old new c.takes_text_here.result c.requires.calm
     c.takes_text_here.ensures.text c.if-not-takes_text_here.true
-    (c.in_ok-say_told.ensures.seen ∙ ap (λ l. told l old) c.in_ok-from_str.ensures))
+    (c.in_ok-say_emitted.ensures.seen ∙ ap (λ l. emitted l old) c.in_ok-from_str.ensures))
 
 pub returns-then-not-takes_text_here-clause-less : goal.returns-then-not-takes_text_here-clause-less
 returns-then-not-takes_text_here-clause-less g c =
@@ -59,5 +59,5 @@ returns-clause-seen g c =
 
 pub returns-clause-less : goal.returns-clause-less
 returns-clause-less g c =
-    behind_less (is_alike c.args.is_space) (chars c.args.text.now) (chars c.split_alike.result.1.now)
+    after_less (is_alike c.args.is_space) (chars c.args.text.now) (chars c.split_alike.result.1.now)
     c.split_alike.ensures.rest c.requires.first

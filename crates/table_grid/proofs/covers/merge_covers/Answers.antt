@@ -13,7 +13,7 @@ loop-cover-preserved c =
     c.loop-cover.merged.items c.push_before.new.merged.items c.push_cover.new.covers.items
     c.requires.ordered c.requires.own c.requires.apart (omega arith) c.loop-cover.invariant c.in_ok-at.ensures.pushed
     c.in_ok-at.ensures.over
-    c.in_ok-push_cover.ensures.ordered c.in_ok-push_cover.ensures.behind c.in_ok-push_cover.ensures.fewer
+    c.in_ok-push_cover.ensures.ordered c.in_ok-push_cover.ensures.trailing c.in_ok-push_cover.ensures.fewer
     c.in_ok-push_cover.ensures.more
 
 pub push_before-requires-2-clause-start : goal.push_before-requires-2-clause-start

@@ -2,8 +2,8 @@ use Rattle.std.proofs.Common.{◌≡◌, [], ◌∷◌, arith, refl, subst}
 use Rattle.table_grid.specs.Gaps.{IsVacant}
 use Rattle.table_grid.specs.PlaceRowWords.{at}
 use Rattle.table_grid.proofs.HoleLemmas.{nobody}
-use Rattle.table_grid.proofs.CheckLemmas.{are_placed, is_vacant, stand, fits_at, none_before, is_clear, vacant_at}
-use Rattle.table_grid.proofs.CheckLemmas.{misses_here}
+use Rattle.table_grid.proofs.CheckLemmas.{are_placed, fits_at, is_clear, is_vacant, misses_here, none_before, stand}
+use Rattle.table_grid.proofs.CheckLemmas.{vacant_at}
 use Rattle.table_grid.proofs.place_rows.a_column_span_leaves_a_gap.Goals as goal
 
 pub returns-clause-places : goal.returns-clause-places

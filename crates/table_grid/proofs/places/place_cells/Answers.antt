@@ -2,12 +2,12 @@ use Rattle.std.proofs.Common.{◌≡◌, ℕ, List, length, get_or, ap, subst, a
 use Rattle.table_grid.specs.declared.cell.PlacedCell.{PlacedCell}
 use Rattle.table_grid.specs.declared.covers.Cover.{Cover}
 use Rattle.table_grid.specs.declared.ends.RowEnd.{RowEnd}
-use Rattle.table_grid.specs.Covers.{IsBehindRow}
+use Rattle.table_grid.specs.Covers.{IsAfterRow}
 use Rattle.table_grid.specs.Ends.{HasNextCovers}
 use Rattle.table_grid.specs.RowGaps.{AreGapsIn}
 use Rattle.table_grid.proofs.GapLemmas.{gaps_more, row_grows}
 use Rattle.table_grid.proofs.RowLemmas.{no_place}
-use Rattle.table_grid.proofs.StateLemmas.{behind_up_to}
+use Rattle.table_grid.proofs.StateLemmas.{after_up_to}
 use Rattle.table_grid.proofs.places.place_cells.Goals as goal
 
 pub rows-preserved : goal.rows-preserved
@@ -25,9 +25,9 @@ rows-preserved c =
     (get_or c.args.cells.now c.len-in-rows.result no_place).row c.in_ok-above.above.items xs)
     c.as_slice-in-rows-3.ensures.value
     c.in_ok-above.ensures) in
-    let behind : IsBehindRow c.args.cells.now (get_or c.args.cells.now c.len-in-rows.result no_place).row
+    let trailing : IsAfterRow c.args.cells.now (get_or c.args.cells.now c.len-in-rows.result no_place).row
     c.in_ok-above.above.items c.in_ok-own.own.items c.rows.placed.items c.place_row.new.placed.items =
-    subst (λ (xs : List Cover). IsBehindRow c.args.cells.now (get_or c.args.cells.now c.len-in-rows.result no_place).row
+    subst (λ (xs : List Cover). IsAfterRow c.args.cells.now (get_or c.args.cells.now c.len-in-rows.result no_place).row
     xs c.in_ok-own.own.items c.rows.placed.items c.place_row.new.placed.items) c.as_slice-in-rows-4.ensures.value
     c.in_ok-own.ensures in
     let gaps : AreGapsIn (get_or c.args.cells.now c.len-in-rows.result no_place).row c.in_ok-above.above.items
@@ -40,15 +40,15 @@ rows-preserved c =
     c.in_ok-row_gaps.ensures) in
     record {
       ends = c.rows.invariant.ends;
-      state = behind_up_to c.args.cells.now c.in_ok-ends.ends.items c.in_ok-above.passed
+      state = after_up_to c.args.cells.now c.in_ok-ends.ends.items c.in_ok-above.passed
           (get_or c.args.cells.now c.len-in-rows.result no_place).row c.in_ok-above.above.items c.in_ok-own.own.items
           c.rows.placed.items c.place_row.new.placed.items
-          c.requires.rows at (omega arith) next.above next.between.whole next.between.ends behind;
+          c.requires.rows at (omega arith) next.above next.between.whole next.between.ends trailing;
       gaps = gaps_more (get_or c.args.cells.now c.len-in-rows.result no_place).row c.args.cells.now
           c.in_ok-above.above.items c.in_ok-own.own.items c.rows.placed.items c.place_row.new.placed.items
           c.rows.gaps.items c.row_gaps.new.gaps.items
           (row_grows (get_or c.args.cells.now c.len-in-rows.result no_place).row c.args.cells.now
           c.in_ok-above.above.items c.in_ok-own.own.items c.rows.placed.items c.place_row.new.placed.items no_place
-          behind (omega arith) at)
-          next.between.above behind c.rows.invariant.gaps gaps;
+          trailing (omega arith) at)
+          next.between.above trailing c.rows.invariant.gaps gaps;
     }

@@ -1,9 +1,9 @@
-use Rattle.std.proofs.Common.{rules, length-append, ◌≡◌, ℕ, List, [], ◌∷◌, length, get_or}
-use Rattle.std.proofs.Common.{take_all, subst, sym, ap, arith}
+use Rattle.std.proofs.Common.{◌≡◌, [], ◌∷◌, List, ap, arith, get_or, length, length-append, rules, subst, sym, take_all}
+use Rattle.std.proofs.Common.{ℕ}
 use Rattle.table_grid.specs.declared.covers.Cover.{Cover}
 use Rattle.table_grid.specs.declared.cell.PlacedCell.{PlacedCell}
-use Rattle.table_grid.proofs.RowLemmas.{IsInRow, no_place, placed_here, row_first, row_more, left_fits}
-use Rattle.table_grid.proofs.RowLemmas.{stays_more, fresh_more}
+use Rattle.table_grid.proofs.RowLemmas.{IsInRow, fresh_more, left_fits, no_place, placed_here, row_first, row_more}
+use Rattle.table_grid.proofs.RowLemmas.{stays_more}
 use Rattle.table_grid.proofs.walk.place_row.Goals as goal
 
 pub loop-placed-init : goal.loop-placed-init
@@ -20,7 +20,7 @@ loop-placed-init c = record {
 pub cover-requires : goal.cover-requires
 cover-requires c = record {
   small = left_fits c.args.cells.now c.args.row c.args.covers.now c.loop-placed.own.items
-      c.loop-placed.placed.items c.loop-placed.passed c.loop-placed.behind
+      c.loop-placed.placed.items c.loop-placed.passed c.loop-placed.trailing
       (get_or c.args.cells.now c.len-in-loop-placed-2.result no_place).colspan c.place-left.result.0
       c.loop-placed.invariant.state (search rules) (omega arith) c.place-left.ensures.place;
 }
@@ -34,7 +34,7 @@ loop-placed-preserved c =
     record {
       state = rw (c.in_ok-push.ensures.items, c.in_ok-push-2.ensures.items, c.cover.ensures)
           (row_more c.args.cells.now c.args.row c.args.covers.now c.loop-placed.own.items
-          c.loop-placed.placed.items c.loop-placed.passed c.loop-placed.behind c.place-left.result.1
+          c.loop-placed.placed.items c.loop-placed.passed c.loop-placed.trailing c.place-left.result.1
           (get_or c.args.cells.now c.len-in-loop-placed-2.result no_place) c.place-left.result.0 c.requires.start.whole
           c.loop-placed.invariant.state (omega arith)
           (ap (λ (n : ℕ). get_or c.args.cells.now n no_place) index) same

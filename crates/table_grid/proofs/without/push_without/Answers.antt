@@ -5,23 +5,23 @@ use Rattle.table_grid.proofs.without.push_without.Goals.{then-loop-next-test+els
 
 pub loop-next-init : goal.loop-next-init
 loop-next-init c =
-    subst (λ (n : ℕ). IsCutting c.args.covers.now c.args.ended.now c.args.i c.args.at c.args.behind c.args.at n
+    subst (λ (n : ℕ). IsCutting c.args.covers.now c.args.ended.now c.args.i c.args.at c.args.trailing c.args.at n
     c.args.kept.now.items c.args.kept.now.items) (sym c.max-left.ensures)
-    (cutting_first c.args.covers.now c.args.ended.now c.args.i c.args.at c.args.behind c.args.kept.now.items
+    (cutting_first c.args.covers.now c.args.ended.now c.args.i c.args.at c.args.trailing c.args.kept.now.items
     c.requires.ordered c.requires.within c.requires.kept)
 
 pub loop-next-preserved : goal.loop-next-preserved
 loop-next-preserved c =
-    subst (λ (n : ℕ). IsCutting c.args.covers.now c.args.ended.now c.args.i c.args.at c.args.behind
+    subst (λ (n : ℕ). IsCutting c.args.covers.now c.args.ended.now c.args.i c.args.at c.args.trailing
     (c.loop-next.next + 1) n c.args.kept.now.items c.push_part.new.kept.items) (sym c.max-left-in-loop-next.ensures)
-    (cutting_more c.args.covers.now c.args.ended.now c.args.i c.args.at c.args.behind c.args.kept.now.items
+    (cutting_more c.args.covers.now c.args.ended.now c.args.i c.args.at c.args.trailing c.args.kept.now.items
     c.requires.ordered c.requires.within c.requires.kept c.loop-next.next c.loop-next.left c.loop-next.kept.items
     c.push_part.new.kept.items c.requires.rising c.requires.some c.loop-next.invariant (omega arith) (omega arith)
     c.in_ok-push_part.ensures)
 
 pub returns : goal.returns
 returns c =
-    cutting_end c.args.covers.now c.args.ended.now c.args.i c.args.at c.args.behind c.args.kept.now.items
+    cutting_end c.args.covers.now c.args.ended.now c.args.i c.args.at c.args.trailing c.args.kept.now.items
     c.requires.ordered c.requires.within c.requires.kept c.loop-next.next c.loop-next.left c.loop-next.kept.items
     c.push_part-2.new.kept.items c.requires.rising c.loop-next.invariant
     (λ lt. elim c.loop-next-test.branch [

@@ -1,8 +1,9 @@
 use Rattle.std.proofs.Common.{◌+◌, arith, subst, sym}
 use Rattle.table_widths.proofs.CellLemmas.{AreCellsTaken, cells_all, cells_first, cells_more, cells_skipped}
 use Rattle.table_widths.proofs.forming.cells_of_row.Goals as goal
-use Rattle.table_widths.proofs.forming.cells_of_row.Goals.{then-earlier-test+else-cells-at, else-earlier-test}
-use Rattle.table_widths.proofs.forming.cells_of_row.Goals.{then-cells-test+else-cells-at-2, else-cells-test}
+use Rattle.table_widths.proofs.forming.cells_of_row.Goals.{else-cells-test, else-earlier-test}
+use Rattle.table_widths.proofs.forming.cells_of_row.Goals.{then-cells-test+else-cells-at-2}
+use Rattle.table_widths.proofs.forming.cells_of_row.Goals.{then-earlier-test+else-cells-at}
 
 pub earlier-preserved : goal.earlier-preserved
 earlier-preserved c =

@@ -2,8 +2,8 @@ use Rattle.std.proofs.Common.{◌+◌, Global, Vec, ap, arith, subst, sym, ◌�
 use Rattle.table_widths.specs.declared.slot.Slot.{Slot}
 use Rattle.table_widths.proofs.GapLemmas.{AreGapsTaken, gaps_all, gaps_more, gaps_same, gaps_skipped}
 use Rattle.table_widths.proofs.forming.gaps_of_row.Goals as goal
-use Rattle.table_widths.proofs.forming.gaps_of_row.Goals.{then-gaps-at-3+in_ok-push, else-gaps-at-3}
-use Rattle.table_widths.proofs.forming.gaps_of_row.Goals.{then-gaps-test+else-gaps-at-2, else-gaps-test}
+use Rattle.table_widths.proofs.forming.gaps_of_row.Goals.{else-gaps-at-3, else-gaps-test, then-gaps-at-3+in_ok-push}
+use Rattle.table_widths.proofs.forming.gaps_of_row.Goals.{then-gaps-test+else-gaps-at-2}
 
 pub earlier-preserved : goal.earlier-preserved
 earlier-preserved c =

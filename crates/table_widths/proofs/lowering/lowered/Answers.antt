@@ -1,5 +1,4 @@
-use Rattle.std.proofs.Common.{◌≡◌, ℕ, ◌-◌, arith, get_or, ◌∙◌, ap, ◌∷◌}
-use Rattle.std.proofs.Common.{[], Bool, true, false, cond, refl}
+use Rattle.std.proofs.Common.{◌≡◌, ◌-◌, ◌∙◌, ◌∷◌, [], Bool, ap, arith, cond, false, get_or, refl, true, ℕ}
 use mir.Val.{bool_byte}
 use Rattle.std.proofs.lemmas.List.{get_or_append_left, get_or_push}
 use Rattle.std.proofs.lemmas.Grind.{common_steps}

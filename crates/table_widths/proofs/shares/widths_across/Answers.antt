@@ -1,5 +1,4 @@
-use Rattle.std.proofs.Common.{◌≡◌, ℕ, arith, map, take_all}
-use Rattle.std.proofs.Common.{ap, sym, ◌∙◌}
+use Rattle.std.proofs.Common.{◌≡◌, ◌∙◌, ap, arith, map, sym, take_all, ℕ}
 use Rattle.table_widths.specs.Shares.{least_of, share_of, leasts_of, shares_of}
 use Rattle.table_widths.proofs.ShareAcrossLemmas.{none_across, some_across}
 use Rattle.table_widths.proofs.FitLemmas.{lists_within}

@@ -2,8 +2,8 @@ use Rattle.std.proofs.Common.{◌∙◌, arith, encode_utf8, sym, [], ◌∷◌,
 use Rattle.std.proofs.lemmas.Str.{IsUtf8-string_bytes}
 use Rattle.std.proofs.lemmas.Bool.Decides.{nat_tests}
 use Rattle.test_fields.specs.Escapes.{escape_of}
-use Rattle.test_fields.proofs.AddedLemmas.{escape_10, escape_13, escape_9, escape_92, escape_seen}
-use Rattle.test_fields.proofs.AddedLemmas.{chars-encode, is_pushed}
+use Rattle.test_fields.proofs.AddedLemmas.{chars-encode, escape_10, escape_13, escape_9, escape_92, escape_seen}
+use Rattle.test_fields.proofs.AddedLemmas.{is_pushed}
 use Rattle.test_fields.proofs.escapes.push_character.Goals as goal
 
 pub returns-in-92 : goal.returns-in-92

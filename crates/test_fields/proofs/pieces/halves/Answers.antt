@@ -4,8 +4,8 @@ use Rattle.std.proofs.lemmas.Iterator.Consumers.{YieldsList-turn, YieldsList-end
 use Rattle.std.proofs.lemmas.List.{drop_all, length_push, take_all}
 use Rattle.std.proofs.lemmas.Str.{IsUtf8-string_bytes, chars-nil, scalars-chars}
 use Rattle.test_fields.proofs.AddedLemmas.{one_more}
-use Rattle.test_fields.proofs.TurnLemmas.{all_taken, next_in_back, next_in_front, none_in_back}
-use Rattle.test_fields.proofs.TurnLemmas.{none_in_front, turn_scalar}
+use Rattle.test_fields.proofs.TurnLemmas.{all_taken, next_in_back, next_in_front, none_in_back, none_in_front}
+use Rattle.test_fields.proofs.TurnLemmas.{turn_scalar}
 use Rattle.test_fields.proofs.pieces.halves.Goals as goal
 
 pub loop-c-init : goal.loop-c-init

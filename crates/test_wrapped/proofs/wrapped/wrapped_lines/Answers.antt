@@ -3,8 +3,8 @@ use Rattle.text_lines.specs.Tagged.{line_items}
 use Rattle.text_normal.specs.Layout.{AreLinesOf, NeverFits}
 use Rattle.text_wrapping.specs.Blocks.{ended_lines}
 use Rattle.test_wrapped.specs.Letters.{letters_of}
-use Rattle.test_wrapped.proofs.Pieces.{sources, letters_in_sources, no_marker_in_sources, piece_kept, pieces_kept}
-use Rattle.test_wrapped.proofs.Pieces.{if_ok_map}
+use Rattle.test_wrapped.proofs.Pieces.{if_ok_map, letters_in_sources, no_marker_in_sources, piece_kept, pieces_kept}
+use Rattle.test_wrapped.proofs.Pieces.{sources}
 use Rattle.test_wrapped.proofs.wrapped.wrapped_lines.Goals as goal
 
 pub loop-piece-preserved : goal.loop-piece-preserved

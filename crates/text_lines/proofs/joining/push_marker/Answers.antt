@@ -1,7 +1,6 @@
 use Rattle.std.proofs.Common.{[], ◌∷◌, ◌++◌, ap, ◌∙◌, chars, subst, sym}
-use Rattle.text_lines.specs.Elements.{AreJoined}
+use Rattle.text_lines.specs.Elements.{AreJoined, elements_items, marker}
 use Rattle.text_lines.proofs.Joined.{marker_pushed}
-use Rattle.text_lines.specs.Elements.{elements_items, marker}
 use Rattle.text_lines.specs.declared.tagged_string.TaggedLineElement.TheVariants.{FragmentStart}
 use Rattle.text_lines.proofs.Joins.{items_pushed}
 use Rattle.text_lines.proofs.joining.push_marker.Goals as goal

@@ -1,5 +1,5 @@
-use Rattle.std.proofs.Common.{ap, sym, ◌∙◌, subst, ◌++◌, map, take, arith, ◌≡◌, ◌<◌, [], ◌∷◌, length, chars}
-use Rattle.std.proofs.Common.{string_bytes}
+use Rattle.std.proofs.Common.{◌∙◌, ◌++◌, ◌≡◌, ◌<◌, [], ◌∷◌, ap, arith, chars, length, map, string_bytes, subst, sym}
+use Rattle.std.proofs.Common.{take}
 use Rattle.std.specs.Prelude.{Err}
 use Rattle.std.proofs.lemmas.List.{take_all}
 use Rattle.std.proofs.lemmas.Result.{err_from_is_err_and}

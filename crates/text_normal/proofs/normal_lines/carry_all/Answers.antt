@@ -3,8 +3,8 @@ use Rattle.std.specs.Prelude.{Err}
 use Rattle.std.proofs.lemmas.Result.{err_from_is_err_and}
 use Rattle.text_pieces.specs.Sources.{piece_sources, sources_of}
 use Rattle.text_normal.specs.MarkedStates.{CarriesFront}
-use Rattle.text_normal.proofs.PieceLemmas.{first_sources, no_sources, carries_nothing, carries_more, carries_all}
-use Rattle.text_normal.proofs.PieceLemmas.{carries_wide}
+use Rattle.text_normal.proofs.PieceLemmas.{carries_all, carries_more, carries_nothing, carries_wide, first_sources}
+use Rattle.text_normal.proofs.PieceLemmas.{no_sources}
 use Rattle.text_normal.proofs.normal_lines.carry_all.Goals as goal
 
 pub loop-first-init : goal.loop-first-init

@@ -6,7 +6,7 @@ use Rattle.text_normal.specs.Letters.{letters_of}
 use Rattle.text_normal.specs.NormalStates.{EndsAs}
 use Rattle.text_normal.proofs.NormalFinal.{if_ok_map}
 use Rattle.text_normal.proofs.PieceLemmas.{err_same, letters_of-append, last_sources, no_sources, wide_within}
-use Rattle.text_normal.proofs.EndedText.{if_ok_two, ends_here, ends_behind}
+use Rattle.text_normal.proofs.EndedText.{if_ok_two, ends_here, ends_after}
 use Rattle.text_normal.proofs.normal_lines.end_with_all.Goals as goal
 
 pub returns-in_err-take_all-in-Some-clause-narrow : goal.returns-in_err-take_all-in-Some-clause-narrow
@@ -29,7 +29,7 @@ returns-in_ok-take_all-in-Some-clause-ends g c =
     let front = sources_of seen c.pop.new.self.items in
     let back = piece_sources seen c.in-Some.last in
     let whole = last_sources seen c.args.pieces.items c.pop.new.self.items c.in-Some.last c.in-Some.ensures.items in
-    if_ok_map _ _ c.end_with.result (λ lines ends. ends_behind seen c.args.text c.take_all.new.text (letters_of front)
+    if_ok_map _ _ c.end_with.result (λ lines ends. ends_after seen c.args.text c.take_all.new.text (letters_of front)
     (letters_of back) (letters_of (sources_of seen c.args.pieces.items)) lines.items
     (ap letters_of whole ∙ letters_of-append front back) c.in_ok-take_all-in-Some.ensures.read ends)
     c.end_with.ensures.ends

@@ -15,12 +15,12 @@ returns-clause-ends g c =
     ≡ lettered (chars (string_bytes c.args.last.text)) (seen c.args.last.main_tag) =
     letters_of_sourced {S = g.T.EqualCopy.Seen} (chars (string_bytes c.args.last.text)) (seen c.args.last.main_tag)
     (wrap_seen seen c.args.last) in
-    if_ok_map _ _ c.into_lines_behind.result (λ lines ends. subst (λ ls. EndsAs seen c.args.text ls lines.items)
-    (sym letters) ends) c.into_lines_behind.ensures.ends
+    if_ok_map _ _ c.into_lines_after.result (λ lines ends. subst (λ ls. EndsAs seen c.args.text ls lines.items)
+    (sym letters) ends) c.into_lines_after.ensures.ends
 
 pub returns-clause-narrow : goal.returns-clause-narrow
 returns-clause-narrow g c = λ e width overflow read has.
     let seen = g.T.EqualCopy.seen in
     wide_sourced width overflow (chars (string_bytes c.args.last.text)) (seen c.args.last.main_tag)
     (seen c.args.last.main_tag) (wrap_seen seen c.args.last)
-    (c.into_lines_behind.ensures.narrow e width overflow read has)
+    (c.into_lines_after.ensures.narrow e width overflow read has)

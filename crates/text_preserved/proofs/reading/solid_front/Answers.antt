@@ -2,8 +2,8 @@ use Rattle.std.proofs.Common.{refl, sym, ap, ◌∙◌, chars}
 use Rattle.std.proofs.lemmas.Str.{chars-nil}
 use Rattle.text_pieces.specs.Sources.{is_filled}
 use Rattle.text_preserved.specs.Trimming.{has_solid_text, solid_text}
-use Rattle.text_preserved.proofs.TrimLemmas.{chars_last, solid_has, bare_has, solid_stays, bare_goes, filled_last}
-use Rattle.text_preserved.proofs.TrimLemmas.{whole_front, front_before}
+use Rattle.text_preserved.proofs.TrimLemmas.{bare_goes, bare_has, chars_last, filled_last, front_before, solid_has}
+use Rattle.text_preserved.proofs.TrimLemmas.{solid_stays, whole_front}
 use Rattle.text_preserved.proofs.reading.solid_front.Goals as goal
 
 pub returns-then-is_solid-clause-front : goal.returns-then-is_solid-clause-front

@@ -8,9 +8,9 @@ pub returns-clause-wide : goal.returns-clause-wide
 unfolding preserved_lines kind_of columns_of width_of char_width
 returns-clause-wide c = refl
 
-pub returns-clause-behind : goal.returns-clause-behind
+pub returns-clause-trailing : goal.returns-clause-trailing
 unfolding preserved_lines kind_of columns_of width_of char_width
-returns-clause-behind c = refl
+returns-clause-trailing c = refl
 
 pub returns-clause-indented : goal.returns-clause-indented
 unfolding preserved_lines kind_of columns_of width_of char_width

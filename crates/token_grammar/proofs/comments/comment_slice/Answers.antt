@@ -9,8 +9,8 @@ returns-in-Some-clause-value c =
     let cs = chars c.args.text.now in
     let found =
     or_is (λ rest. chars rest.now) _ _ _ _ _ c.in-Some.ensures
-    (c.behind.ensures.value ∙ ap (λ m. after m cs) greater_codes)
-    (c.behind-2.ensures.value ∙ ap (λ m. after m cs) arrow_codes) in
+    (c.trailing.ensures.value ∙ ap (λ m. after m cs) greater_codes)
+    (c.trailing-2.ensures.value ∙ ap (λ m. after m cs) arrow_codes) in
     empty_same (chars c.in-Some.rest.now) ∙ comment_slice-empty cs (chars c.in-Some.rest.now) found
 
 pub returns-in-Some-cut_at_mark-clause-value : goal.returns-in-Some-cut_at_mark-clause-value
@@ -18,8 +18,8 @@ returns-in-Some-cut_at_mark-clause-value c =
     let cs = chars c.args.text.now in
     let none =
     or_is (λ rest. chars rest.now) _ _ _ _ _ c.in_default.ensures
-    (c.behind.ensures.value ∙ ap (λ m. after m cs) greater_codes)
-    (c.behind-2.ensures.value ∙ ap (λ m. after m cs) arrow_codes) in
+    (c.trailing.ensures.value ∙ ap (λ m. after m cs) greater_codes)
+    (c.trailing-2.ensures.value ∙ ap (λ m. after m cs) arrow_codes) in
     comment_slice-found cs _ none c.in-Some-cut_at_mark.ensures.value
 
 pub returns-in-None-clause-value : goal.returns-in-None-clause-value
@@ -27,6 +27,6 @@ returns-in-None-clause-value c =
     let cs = chars c.args.text.now in
     let none =
     or_is (λ rest. chars rest.now) _ _ _ _ _ c.in_default.ensures
-    (c.behind.ensures.value ∙ ap (λ m. after m cs) greater_codes)
-    (c.behind-2.ensures.value ∙ ap (λ m. after m cs) arrow_codes) in
+    (c.trailing.ensures.value ∙ ap (λ m. after m cs) greater_codes)
+    (c.trailing-2.ensures.value ∙ ap (λ m. after m cs) arrow_codes) in
     ended_same _ _ c.without_begun_mark.ensures ∙ comment_slice-ended cs none c.in-None.ensures.value

@@ -17,5 +17,5 @@ cut-preserved c =
     let left = c.in-Some.ensures in (
       left.utf8,
       IsLeft-past comment_mark _ _ _ _ c.cut.invariant.1 left.scalar left.utf8 left.value
-          (sym c.in_default-behind_mark.ensures.value),
+          (sym c.in_default-after_mark.ensures.value),
     )

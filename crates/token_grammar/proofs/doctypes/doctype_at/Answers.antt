@@ -1,7 +1,7 @@
 use Rattle.std.proofs.Common.{◌≡◌, Some, chars, length, sym, ap, ◌∙◌}
 use Rattle.std.proofs.lemmas.Bool.{both_ways, eq-eqb, eqb-true}
 use Rattle.std.proofs.lemmas.Result.{IfOk-weaker}
-use Rattle.token_grammar.specs.Doctypes.{behind_keyword, named_doctype}
+use Rattle.token_grammar.specs.Doctypes.{after_keyword, named_doctype}
 use Rattle.token_grammar.proofs.DoctypeLemmas.{doctype_at-named, doctype_at-none, no_bytes, no_chars}
 use Rattle.token_grammar.proofs.doctypes.doctype_at.Goals as goal
 
@@ -24,5 +24,5 @@ returns-clause-value c =
     doctype_at-named (chars c.args.text.now)
     (chars name) _ _ c.skip.ensures c.split_while.ensures.front c.split_while.ensures.rest named some
     c.in_ok-name_of.ensures in
-    IfOk-weaker c.behind_keyword.result _ _ (λ x p. p ∙
-    ap (behind_keyword (named_doctype (Some named))) c.skip-2.ensures ∙ whole) c.behind_keyword.ensures.value
+    IfOk-weaker c.after_keyword.result _ _ (λ x p. p ∙
+    ap (after_keyword (named_doctype (Some named))) c.skip-2.ensures ∙ whole) c.after_keyword.ensures.value

@@ -5,14 +5,14 @@ use Rattle.token_grammar.proofs.DoctypeLemmas.{IsIdentifier-read, closed_public-
 use Rattle.token_grammar.proofs.DoctypeLemmas.{system_or-quote}
 use Rattle.token_grammar.proofs.doctypes.public_at.Goals as goal
 
-pub returns-in-Some-behind_opening_quote-clause-value : goal.returns-in-Some-behind_opening_quote-clause-value
-returns-in-Some-behind_opening_quote-clause-value c =
+pub returns-in-Some-after_opening_quote-clause-value : goal.returns-in-Some-after_opening_quote-clause-value
+returns-in-Some-after_opening_quote-clause-value c =
     let q = c.args.quote in
     let cs = chars c.args.text.now in
     let d = with_public c.args.doctype c.in_ok-shown.field-0 in
     let read =
     IsIdentifier-read q cs _ _ _ c.split_while.ensures.front c.split_while.ensures.rest c.in_ok-shown.ensures in
-    let second = c.in-Some-behind_opening_quote.ensures.value in
+    let second = c.in-Some-after_opening_quote.ensures.value in
     IfOk-weaker c.system_at.result _ _
     (λ x p.
     p ∙ system_or-quote d (ends_here d) _ _ _ second.0 second.1 ∙ ap (system_or d (ends_here d)) c.skip-rest.ensures

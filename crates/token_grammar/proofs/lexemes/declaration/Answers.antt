@@ -18,14 +18,14 @@ returns-in-Some-clause-value c =
     ok_weaker (λ l. lexeme_of m l ≡ comment_lexeme m (cut_of c.comment_slice.result)) (λ l. lexeme_of m l
     ≡ declaration c.args.foreign m cs) (λ l h. h ∙ e) c.comment.result c.comment.ensures.value
 
-pub returns-in-Some-behind_word-clause-value : goal.returns-in-Some-behind_word-clause-value
-returns-in-Some-behind_word-clause-value c =
+pub returns-in-Some-rest_after_word-clause-value : goal.returns-in-Some-rest_after_word-clause-value
+returns-in-Some-rest_after_word-clause-value c =
     let cs = chars c.args.text.now in
     let m = c.args.mode.now in
-    let rest = chars c.in-Some-behind_word.rest.now in
+    let rest = chars c.in-Some-rest_after_word.rest.now in
     let e : doctype_lexeme m (doctype_at rest) ≡ declaration c.args.foreign m cs =
     declared_doctype c.args.foreign m cs rest (c.in_default.ensures.value ∙ ap (λ w. after w cs) dashes)
-    (c.in-Some-behind_word.ensures.value ∙ ap (λ w. after_word w cs) doctype_word) in
+    (c.in-Some-rest_after_word.ensures.value ∙ ap (λ w. after_word w cs) doctype_word) in
     ok_weaker (λ l. lexeme_of m l ≡ doctype_lexeme m (doctype_at rest)) (λ l. lexeme_of m l
     ≡ declaration c.args.foreign m cs) (λ l h. h ∙ e) c.doctype.result c.doctype.ensures.value
 
@@ -36,6 +36,6 @@ returns-in-None-clause-value c =
     let e : comment_lexeme m (cut_of c.bogus_comment_slice.result) ≡ declaration c.args.foreign m cs =
     ap (comment_lexeme m) c.bogus_comment_slice.ensures.value ∙ declared_other c.args.foreign m cs
     (c.in_default.ensures.value ∙ ap (λ w. after w cs) dashes)
-    (c.in_default-behind_word.ensures.value ∙ ap (λ w. after_word w cs) doctype_word) c.in-None.ensures.value in
+    (c.in_default-rest_after_word.ensures.value ∙ ap (λ w. after_word w cs) doctype_word) c.in-None.ensures.value in
     ok_weaker (λ l. lexeme_of m l ≡ comment_lexeme m (cut_of c.bogus_comment_slice.result)) (λ l. lexeme_of m l
     ≡ declaration c.args.foreign m cs) (λ l h. h ∙ e) c.comment-in-None.result c.comment-in-None.ensures.value

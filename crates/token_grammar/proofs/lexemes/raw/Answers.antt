@@ -1,7 +1,7 @@
 use Rattle.std.proofs.Common.{◌≡◌, ◌∷◌, [], chars, sym, ap, ap₂, ◌∙◌}
 use Rattle.std.specs.Prelude.{option_map}
 use Rattle.token_grammar.specs.Items.{characters}
-use Rattle.token_grammar.specs.Lexemes.{kind_behind, raw_lexeme, told}
+use Rattle.token_grammar.specs.Lexemes.{kind_after, raw_lexeme, emitted}
 use Rattle.token_grammar.specs.PlainRead.{lexeme_of}
 use Rattle.token_grammar.specs.declared.modes.TextKind.TheVariants.{Raw}
 use Rattle.token_grammar.proofs.LexemeLemmas.{ok_weaker, raw_end, raw_character}
@@ -21,10 +21,10 @@ returns-clause-value c =
     let m = c.args.mode.now in
     let cs = chars c.args.rest.now in
     let none = sym (ap (option_map (λ text. chars text.now)) c.in_default.is) ∙ c.in_ok-name.ensures.value in
-    let kind = c.kind_behind.ensures ∙ ap (kind_behind c.args.kind) c.requires in
+    let kind = c.kind_after.ensures ∙ ap (kind_after c.args.kind) c.requires in
     ok_weaker _ (λ l. lexeme_of m l ≡ raw_lexeme c.args.table.now c.args.kind m c.args.c cs)
     (λ l h. h m
-    ∙ (ap₂ (λ d k. told (characters (d ∷ []) ∷ []) (record m { text = Raw k }) cs) c.shown_character.ensures.value
+    ∙ (ap₂ (λ d k. emitted (characters (d ∷ []) ∷ []) (record m { text = Raw k }) cs) c.shown_character.ensures.value
     kind
     ∙ raw_character c.args.table.now c.args.kind m c.args.c cs none
     (sym c.may_be_reference.ensures ∙ c.if-may_be_reference.false)))

@@ -6,4 +6,4 @@ use Rattle.token_grammar.proofs.lexemes.section_text.Goals as goal
 pub returns-clause-value : goal.returns-clause-value
 returns-clause-value c =
     section_if c.args.foreign (chars c.args.text.now) _ c.if-not-foreign.false
-    (c.behind.ensures.value ∙ ap (λ m. after m (chars c.args.text.now)) section_mark)
+    (c.trailing.ensures.value ∙ ap (λ m. after m (chars c.args.text.now)) section_mark)

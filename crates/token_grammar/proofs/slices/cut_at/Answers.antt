@@ -15,11 +15,11 @@ cut-init c = record {
 pub split_at-requires : goal.split_at-requires
 split_at-requires c = cut_edge (after (chars c.args.mark.now)) _ _ _ c.utf8.text c.cut.invariant.so_far
 
-pub returns-in-Some-behind-clause-value : goal.returns-in-Some-behind-clause-value
-returns-in-Some-behind-clause-value c =
+pub returns-in-Some-trailing-clause-value : goal.returns-in-Some-trailing-clause-value
+returns-in-Some-trailing-clause-value c =
     cut_found (after (chars c.args.mark.now)) _ _ _ c.utf8.text c.cut.invariant.so_far c.split_at.result.0.now _
-    c.split_at.result.1.now c.in-Some-behind.rest.now c.in-Some.c
-    c.in-Some.ensures.steps.0 c.split_at.ensures.front c.split_at.ensures.back c.in-Some-behind.ensures.value
+    c.split_at.result.1.now c.in-Some-trailing.rest.now c.in-Some.c
+    c.in-Some.ensures.steps.0 c.split_at.ensures.front c.split_at.ensures.back c.in-Some-trailing.ensures.value
 
 pub cut-preserved : goal.cut-preserved
 cut-preserved c = record {

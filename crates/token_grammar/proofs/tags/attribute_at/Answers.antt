@@ -9,8 +9,8 @@ use Rattle.token_grammar.proofs.tags.attribute_at.Goals as goal
 
 pub returns-clause-value : goal.returns-clause-value
 returns-clause-value c =
-    attribute-read c.args.table.now c.args.first (chars c.args.behind.now)
-    (front_while (is_of AttributeName) (chars c.args.behind.now)) (chars c.in_ok-name.rest.now)
+    attribute-read c.args.table.now c.args.first (chars c.args.trailing.now)
+    (front_while (is_of AttributeName) (chars c.args.trailing.now)) (chars c.in_ok-name.rest.now)
     (chars c.in-Some.value.now) (chars c.in-Some.rest.now) c.from.result c.in_ok-name.name c.in_ok-value_of.field-0
     c.new-2.result
     refl c.in_ok-name.ensures.rest c.in-Some.ensures.value c.new-2.ensures

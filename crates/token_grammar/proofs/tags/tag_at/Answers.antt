@@ -33,7 +33,7 @@ returns-in_default-2-clause-value c =
     left-cut_off c.args.table.now c.args.kind c.in_ok-name.name c.attributes.attrs c.attributes.had_duplicate_attributes
     (chars c.attributes.rest.now) _ _
     c.split_while-in-attributes.ensures.front c.split_while-in-attributes.ensures.rest c.in-Some.c
-    (chars c.in-Some.behind_c.now) c.in-Some.ensures.value c.if-c-eq62.false
+    (chars c.in-Some.after_c.now) c.in-Some.ensures.value c.if-c-eq62.false
     (ap (λ o. option_map attribute_and_rest o) (sym c.in_default-2.is) ∙ c.in_ok-attribute.ensures.value)
     ∙ c.attributes.invariant.2
 
@@ -42,7 +42,7 @@ attributes-smaller c =
     left-shorter c.args.table.now c.args.kind c.in_ok-name.name c.attributes.attrs c.attributes.had_duplicate_attributes
     (chars c.attributes.rest.now) _ _
     c.split_while-in-attributes.ensures.front c.split_while-in-attributes.ensures.rest c.in-Some.c
-    (chars c.in-Some.behind_c.now) (chars c.in-Some-2.behind_attribute.now) c.in-Some-2.attribute
+    (chars c.in-Some.after_c.now) (chars c.in-Some-2.after_attribute.now) c.in-Some-2.attribute
     c.in-Some.ensures.value
     (ap (λ o. option_map attribute_and_rest o) (sym c.in-Some-2.is) ∙ c.in_ok-attribute.ensures.value)
 
@@ -53,7 +53,7 @@ attributes-preserved c = (
   left-more c.args.table.now c.args.kind c.in_ok-name.name c.attributes.attrs c.attributes.had_duplicate_attributes
       (chars c.attributes.rest.now) _ _
       c.split_while-in-attributes.ensures.front c.split_while-in-attributes.ensures.rest c.in-Some.c
-      (chars c.in-Some.behind_c.now) (chars c.in-Some-2.behind_attribute.now) c.in-Some-2.attribute _ _
+      (chars c.in-Some.after_c.now) (chars c.in-Some-2.after_attribute.now) c.in-Some-2.attribute _ _
       c.in-Some.ensures.value c.if-c-eq62.false
       (ap (λ o. option_map attribute_and_rest o) (sym c.in-Some-2.is) ∙ c.in_ok-attribute.ensures.value)
       c.in_ok-is_dropped.ensures.attributes

@@ -1,5 +1,5 @@
 use Rattle.std.proofs.Common.{◌∷◌, ◌++◌, [], chars, string_bytes, ap, ◌∙◌}
-use Rattle.token_states.specs.declared.place.Place.TheVariants.{BogusComment}
+use Rattle.token_states.specs.declared.place.LexemeState.TheVariants.{BogusComment}
 use Rattle.token_states.proofs.MarkupHeld.{bogus_over, pushed, still_no_greater, taken}
 use Rattle.token_states.proofs.comment_turns.bogus_comment_turn.Goals as goal
 

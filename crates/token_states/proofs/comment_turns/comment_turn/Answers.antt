@@ -1,6 +1,6 @@
 use Rattle.std.proofs.Common.{chars, string_bytes, ap, subst}
 use Rattle.token_states.specs.CommentEnds.{IsClosed, IsNotClosed}
-use Rattle.token_states.specs.declared.place.Place.TheVariants.{Comment}
+use Rattle.token_states.specs.declared.place.LexemeState.TheVariants.{Comment}
 use Rattle.token_states.proofs.CommentLemmas.{comment_over, still_open_comment}
 use Rattle.token_states.proofs.MarkupHeld.{pushed, taken}
 use Rattle.token_states.proofs.comment_turns.comment_turn.Goals as goal

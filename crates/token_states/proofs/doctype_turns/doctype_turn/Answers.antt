@@ -1,5 +1,5 @@
 use Rattle.std.proofs.Common.{◌∷◌, ◌++◌, [], chars, string_bytes, ap, ◌∙◌}
-use Rattle.token_states.specs.declared.place.Place.TheVariants.{Doctype}
+use Rattle.token_states.specs.declared.place.LexemeState.TheVariants.{Doctype}
 use Rattle.token_states.proofs.DoctypeEnds.{doctype_over}
 use Rattle.token_states.proofs.MarkupHeld.{pushed, still_no_greater, taken}
 use Rattle.token_states.proofs.doctype_turns.doctype_turn.Goals as goal

@@ -2,8 +2,8 @@ use Rattle.std.proofs.Common.{◌==◌, refl, sym, ◌∙◌}
 use Rattle.std.proofs.lemmas.Bool.{and_left, and_right, ne_eqb}
 use Rattle.token_states.specs.Goings.{may_begin}
 use Rattle.token_states.proofs.FirstLemmas.{dash_first, raw_first_in, raw_sign_in}
-use Rattle.token_states.proofs.first.first_of_raw.Goals.{else-c-eq60-via-then-c-eq60+else-may_begin}
 use Rattle.token_states.proofs.first.first_of_raw.Goals.{else-c-eq60-via-else-c-eq60}
+use Rattle.token_states.proofs.first.first_of_raw.Goals.{else-c-eq60-via-then-c-eq60+else-may_begin}
 use Rattle.token_states.proofs.first.first_of_raw.Goals as goal
 
 pub returns-then-may_be_reference-clause-first : goal.returns-then-may_be_reference-clause-first

@@ -2,7 +2,7 @@ use Rattle.std.proofs.Common.{◌≡◌, ◌∷◌, ◌++◌, [], IsTrue, chars,
 use Rattle.std.proofs.lemmas.Str.{chars-nil}
 use Rattle.token_states.specs.Goings.{IsGoing}
 use Rattle.token_states.specs.MarkupSound.{is_begun_declaration}
-use Rattle.token_states.specs.declared.place.Place.TheVariants.{MarkupDeclarationOpen}
+use Rattle.token_states.specs.declared.place.LexemeState.TheVariants.{MarkupDeclarationOpen}
 use Rattle.token_states.proofs.DeclarationLemmas.{bogus_taken, no_greater_begun, opened_taken}
 use Rattle.token_states.proofs.MarkupHeld.{bogus_over, pushed, still_no_greater, taken}
 use Rattle.token_states.proofs.open_turns.declaration_turn.Goals as goal

@@ -2,7 +2,7 @@ use Rattle.std.proofs.Common.{◌≡◌, true, false, chars, string_bytes, sym, 
 use Rattle.std.proofs.lemmas.Bool.{ne_eqb}
 use Rattle.html_lexemes.specs.declared.token.TagKind.TheVariants.{EndTag}
 use Rattle.token_grammar.specs.Characters.{is_letter}
-use Rattle.token_states.specs.declared.place.Place.TheVariants.{EndTagOpen}
+use Rattle.token_states.specs.declared.place.LexemeState.TheVariants.{EndTagOpen}
 use Rattle.token_states.proofs.MarkupHeld.{pushed, taken}
 use Rattle.token_states.proofs.OpenLemmas.{end_tag_taken, no_greater_one, only, slash_over, slash_taken, tag_sound}
 use Rattle.token_states.proofs.open_turns.end_tag_open_turn.Goals as goal

@@ -5,7 +5,7 @@ use Rattle.token_grammar.specs.Lexemes.{is_last}
 use Rattle.token_grammar.specs.Slices.{after}
 use Rattle.token_grammar.specs.Tags.{ends_tag_name}
 use Rattle.token_states.specs.Goings.{is_end_tag_front}
-use Rattle.token_states.specs.RawHeld.{held_behind}
+use Rattle.token_states.specs.RawHeld.{held_after}
 use Rattle.token_states.specs.RawTurns.{IsEndTag, IsTextBefore, RawTurns}
 use Rattle.token_states.proofs.EndTagLemmas.{end_mark, end_tag_held, last_name, name_goes_on, no_letter, other_name}
 use Rattle.token_states.proofs.EndTagLemmas.{tag_begun, tag_not_begun}
@@ -39,7 +39,7 @@ returns-then-is_ascii_alphabetic c =
     (c.in-Some.ensures.value ∙ ap (λ m. after m held) end_mark) in
     λ table foreign mode e.
     subst (λ l. RawTurns table foreign mode c.args.kind l c.args.c c.at_letter.result
-    (held_behind c.at_letter.result l c.args.c)) (sym t.0) (c.at_letter.ensures table foreign mode e)
+    (held_after c.at_letter.result l c.args.c)) (sym t.0) (c.at_letter.ensures table foreign mode e)
 
 pub returns-then-has : goal.returns-then-has
 returns-then-has c =

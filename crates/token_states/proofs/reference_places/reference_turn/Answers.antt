@@ -16,8 +16,8 @@ returns-in-EndsBefore-clause-turns c =
     held_with (string_bytes c.args.held.now) (string_bytes c.push.new.self) c.args.c
     (IsUtf8-string_bytes c.args.held.now) c.ranges.c.0 c.in_ok-push.ensures.bytes in
     turns_before c.args.table.now c.args.place (string_bytes c.args.held.now) (string_bytes c.push.new.self)
-    (encode_utf8 c.args.c) (string_bytes c.truncate.new.self) c.args.c c.len-length.result c.turn_behind-turn.result
-    (c.turn_behind-turn.ensures.turns (chars (string_bytes c.args.held.now))
+    (encode_utf8 c.args.c) (string_bytes c.truncate.new.self) c.args.c c.len-length.result c.turn_after-turn.result
+    (c.turn_after-turn.ensures.turns (chars (string_bytes c.args.held.now))
     (ap chars c.as_str.ensures.value ∙ whole) c.requires)
     c.in-EndsBefore.is (c.len-length.ensures ∙ string_length c.args.held.now) c.in_ok-push.ensures.bytes
     c.truncate.ensures.bytes
@@ -28,7 +28,7 @@ returns-in_default-clause-turns c =
     held_with (string_bytes c.args.held.now) (string_bytes c.push.new.self) c.args.c
     (IsUtf8-string_bytes c.args.held.now) c.ranges.c.0 c.in_ok-push.ensures.bytes in
     turns_held c.args.table.now c.args.place (chars (string_bytes c.args.held.now))
-    (chars (string_bytes c.push.new.self)) c.args.c c.turn_behind-turn.result
-    (c.turn_behind-turn.ensures.turns (chars (string_bytes c.args.held.now))
+    (chars (string_bytes c.push.new.self)) c.args.c c.turn_after-turn.result
+    (c.turn_after-turn.ensures.turns (chars (string_bytes c.args.held.now))
     (ap chars c.as_str.ensures.value ∙ whole) c.requires)
     c.in_default.not-EndsBefore whole

@@ -3,8 +3,8 @@ use Rattle.std.proofs.lemmas.Bool.{not-false, not-true}
 use Rattle.token_grammar.specs.Tags.{ends_tag_name}
 use Rattle.token_states.specs.RawTurns.{IsTextBefore}
 use Rattle.token_states.proofs.EscapeWordLemmas.{word_ends, word_goes_further, word_goes_on, word_stops}
-use Rattle.token_states.proofs.script_turns.at_escape_word.Goals.{else-held-word-via-then-held-word+else-not-has}
 use Rattle.token_states.proofs.script_turns.at_escape_word.Goals.{else-held-word-via-else-held-word}
+use Rattle.token_states.proofs.script_turns.at_escape_word.Goals.{else-held-word-via-then-held-word+else-not-has}
 use Rattle.token_states.proofs.script_turns.at_escape_word.Goals as goal
 
 pub returns-then-goes_on : goal.returns-then-goes_on

@@ -8,9 +8,9 @@ use Rattle.token_states.proofs.section_turns.section_turn.Goals as goal
 
 pub returns-then-eq : goal.returns-then-eq
 returns-then-eq c mode =
-    subst (λ (h : List ℕ). SectionTurns mode h c.args.c c.behind_brackets.result h)
+    subst (λ (h : List ℕ). SectionTurns mode h c.args.c c.after_brackets.result h)
     (sym (two-held (string_bytes c.args.held.now) c.as_str.result.now c.as_str.ensures.value c.if-eq.ensures))
-    (c.behind_brackets.ensures mode)
+    (c.after_brackets.ensures mode)
 
 pub returns-then-c-ne93 : goal.returns-then-c-ne93
 returns-then-c-ne93 c mode =

@@ -1,7 +1,7 @@
 use Rattle.tree_forest.proofs.LawNodes.{changed_other}
 use Rattle.tree_forest.proofs.Nodes.{node_made}
-use Rattle.tree_forest.proofs.LawPlaces.{out_kinds, out_others, put_children, put_kinds}
-use Rattle.tree_forest.proofs.LawPlaces.{reparented_children, reparented_kinds}
+use Rattle.tree_forest.proofs.LawPlaces.{out_kinds, out_others, put_children, put_kinds, reparented_children}
+use Rattle.tree_forest.proofs.LawPlaces.{reparented_kinds}
 use Rattle.tree_forest.proofs.LawTexts.{words_kinds}
 use Rattle.tree_forest.proofs.laws.what_was_not_named_stays.Goals as goal
 

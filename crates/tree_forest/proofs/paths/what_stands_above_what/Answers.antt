@@ -1,5 +1,5 @@
-use Rattle.tree_forest.proofs.PathLemmas.{above_attributes, above_made, above_made_element, above_put}
-use Rattle.tree_forest.proofs.PathLemmas.{above_reparented, above_taken_out, above_words, both_held}
+use Rattle.tree_forest.proofs.PathLemmas.{above_attributes, above_made, above_made_element, above_put, above_reparented}
+use Rattle.tree_forest.proofs.PathLemmas.{above_taken_out, above_words, both_held}
 use Rattle.tree_forest.proofs.paths.what_stands_above_what.Goals as goal
 
 pub returns-clause-there : goal.returns-clause-there

@@ -2,7 +2,7 @@ use Rattle.std.proofs.Common.{◌≡◌, ℕ, ◌-◌, ◌==◌, drop, false, su
 use Rattle.std.proofs.lemmas.Bool.Decides.{nat_tests}
 use Rattle.tree_forest.specs.Forest.{is_in}
 use Rattle.tree_model.specs.Building.{stack_of}
-use Rattle.tree_model.proofs.OpenLemmas.{none_behind_more, open_at}
+use Rattle.tree_model.proofs.OpenLemmas.{none_after_more, open_at}
 use Rattle.tree_model.proofs.held.position.Goals as goal
 
 pub returns-then-same_node-clause-found : goal.returns-then-same_node-clause-found
@@ -22,6 +22,6 @@ back-preserved g c =
     let other : (number c.args.target == number c.index-elements-at.result) ≡ false =
     grind (arith, nat_tests, c.same_node.ensures, c.if-same_node.false) in (
       omega arith,
-      none_behind_more number (number c.args.target) c.args.elements.now (c.back.at - 1)
+      none_after_more number (number c.args.target) c.args.elements.now (c.back.at - 1)
           c.index-elements-at.result (omega arith) c.index-elements-at.is other (subst P e c.back.invariant.1),
     )

@@ -10,10 +10,10 @@ runs-init g c = record { text = c.utf8.text; growing = nothing_grown _ _ _ }
 
 pub runs-preserved : goal.runs-preserved
 runs-preserved g c = record {
-  text = c.in-Some.ensures.behind;
-  growing = more_grown (chars c.in-Some.reference.now) (escaped c.args.in_value (chars c.in-Some.behind.now))
+  text = c.in-Some.ensures.trailing;
+  growing = more_grown (chars c.in-Some.reference.now) (escaped c.args.in_value (chars c.in-Some.trailing.now))
       (more_grown (chars c.in-Some.run'.now)
-      (chars c.in-Some.reference.now ++ escaped c.args.in_value (chars c.in-Some.behind.now)) c.runs.invariant.growing
+      (chars c.in-Some.reference.now ++ escaped c.args.in_value (chars c.in-Some.trailing.now)) c.runs.invariant.growing
       c.in_ok-write_text.ensures.ok c.in-Some.ensures.value c.in_ok-write_text.ensures.stays)
       c.in_ok-write_text-2.ensures.ok refl c.in_ok-write_text-2.ensures.stays;
 }
@@ -22,15 +22,15 @@ pub returns-in_err-write_text-clause-part : goal.returns-in_err-write_text-claus
 returns-in_err-write_text-clause-part g c =
     on_err _ c.from_residual.ensures.0
     (part_grown (chars c.in-Some.run'.now)
-    (chars c.in-Some.reference.now ++ escaped c.args.in_value (chars c.in-Some.behind.now)) c.runs.invariant.growing
+    (chars c.in-Some.reference.now ++ escaped c.args.in_value (chars c.in-Some.trailing.now)) c.runs.invariant.growing
     c.in_err-write_text.ensures.part c.in-Some.ensures.value)
 
 pub returns-in_err-write_text-2-clause-part : goal.returns-in_err-write_text-2-clause-part
 returns-in_err-write_text-2-clause-part g c =
     on_err _ c.from_residual-in_err-write_text-2.ensures.0
-    (part_grown (chars c.in-Some.reference.now) (escaped c.args.in_value (chars c.in-Some.behind.now))
+    (part_grown (chars c.in-Some.reference.now) (escaped c.args.in_value (chars c.in-Some.trailing.now))
     (more_grown (chars c.in-Some.run'.now)
-    (chars c.in-Some.reference.now ++ escaped c.args.in_value (chars c.in-Some.behind.now)) c.runs.invariant.growing
+    (chars c.in-Some.reference.now ++ escaped c.args.in_value (chars c.in-Some.trailing.now)) c.runs.invariant.growing
     c.in_ok-write_text.ensures.ok c.in-Some.ensures.value c.in_ok-write_text.ensures.stays)
     c.in_err-write_text-2.ensures.part refl)
 

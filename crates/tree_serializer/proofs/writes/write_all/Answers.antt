@@ -1,6 +1,6 @@
 use Rattle.std.proofs.Common.{take, sym, take-append-drop, append-nil}
-use Rattle.tree_serializer.proofs.GrowthLemmas.{nothing_written, more_written, all_written, part_written, on_err}
-use Rattle.tree_serializer.proofs.GrowthLemmas.{no_bytes}
+use Rattle.tree_serializer.proofs.GrowthLemmas.{all_written, more_written, no_bytes, nothing_written, on_err}
+use Rattle.tree_serializer.proofs.GrowthLemmas.{part_written}
 use Rattle.tree_serializer.proofs.writes.write_all.Goals as goal
 
 pub bytes-init : goal.bytes-init

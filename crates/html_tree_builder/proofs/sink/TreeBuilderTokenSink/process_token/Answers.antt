@@ -3,8 +3,8 @@ use Rattle.token_grammar.specs.Items.{item_of}
 use Rattle.rules_actions.specs.Parsed.{parsed}
 use Rattle.html_tree_builder.proofs.FitLemmas.{still_ready}
 use Rattle.html_tree_builder.proofs.sink.TreeBuilderTokenSink.process_token.Goals as goal
-use Rattle.html_tree_builder.proofs.sink.TreeBuilderTokenSink.process_token.Goals.{then-self-via-then-self}
 use Rattle.html_tree_builder.proofs.sink.TreeBuilderTokenSink.process_token.Goals.{then-self-via-else-self+then-self-2}
+use Rattle.html_tree_builder.proofs.sink.TreeBuilderTokenSink.process_token.Goals.{then-self-via-then-self}
 use Rattle.rules_table.specs.State.{State}
 
 pub returns-then-self-clause-refused : goal.returns-then-self-clause-refused

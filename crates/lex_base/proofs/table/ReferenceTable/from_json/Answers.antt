@@ -5,8 +5,8 @@ use Rattle.std.specs.FinMap as finite
 use Rattle.std.specs.Map.Iter.{deref_pair}
 use Rattle.serde_json.specs.View.{view, members_view}
 use Rattle.lex_base.specs.Json.{references_in, table_of_json}
-use Rattle.lex_base.proofs.JsonLemmas.{filled, filled-member, table_of_members, next_member, told_name}
-use Rattle.lex_base.proofs.JsonLemmas.{told_value}
+use Rattle.lex_base.proofs.JsonLemmas.{emitted_name, emitted_value, filled, filled-member, next_member}
+use Rattle.lex_base.proofs.JsonLemmas.{table_of_members}
 use Rattle.lex_base.proofs.table.ReferenceTable.from_json.Goals as goal
 
 pub members-init : goal.members-init
@@ -29,7 +29,7 @@ returns-in_err-name-clause-err c =
     c.as_str-key.result.now (table_of_json c.args.text.now) more c.as_str-key.ensures.value c.members.invariant
     in
     let p = err_from_is_err_and c.from_residual-in_err-name.result c.from_residual-in_err-name.ensures.1 in
-    rw p.1 (told_name c.members.table c.as_str-key.result.now (view c.in-Some-2.value.now)
+    rw p.1 (emitted_name c.members.table c.as_str-key.result.now (view c.in-Some-2.value.now)
     (members_view c.next.new.self) (table_of_json c.args.text.now) c.in_err-name.field-0.0 p.0 next
     c.in_err-name.ensures.err p.2)
 
@@ -45,7 +45,7 @@ returns-in_err-value-clause-err c =
     c.as_str-key.result.now (table_of_json c.args.text.now) more c.as_str-key.ensures.value c.members.invariant
     in
     let p = err_from_is_err_and c.from_residual-in_err-value.result c.from_residual-in_err-value.ensures.1 in
-    rw p.1 (told_value c.members.table c.as_str-key.result.now (chars c.in_ok-name.name.now)
+    rw p.1 (emitted_value c.members.table c.as_str-key.result.now (chars c.in_ok-name.name.now)
     (view c.in-Some-2.value.now) (members_view c.next.new.self)
     (table_of_json c.args.text.now) c.in_err-value.field-0.0 p.0 next c.in_ok-name.ensures.ok
     c.in_err-value.ensures.err p.2)

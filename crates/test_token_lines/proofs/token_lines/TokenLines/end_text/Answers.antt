@@ -1,5 +1,5 @@
-use Rattle.std.proofs.Common.{◌≡◌, ◌++◌, ◌==◌, true, false, ap, sym, ◌∙◌, append-nil, codes, rules}
-use Rattle.std.proofs.Common.{string_bytes, string_len}
+use Rattle.std.proofs.Common.{◌≡◌, ◌++◌, ◌==◌, ◌∙◌, ap, append-nil, codes, false, rules, string_bytes, string_len, sym}
+use Rattle.std.proofs.Common.{true}
 use Rattle.std.proofs.lemmas.Str.{IsUtf8-string_bytes, chars-nil}
 use Rattle.std.specs.Str.{chars}
 use Rattle.test_token_lines.specs.TokenLines.{field, line, text_line}

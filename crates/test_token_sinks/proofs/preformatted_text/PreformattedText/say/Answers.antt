@@ -2,9 +2,9 @@ use Rattle.std.proofs.Common.{◌≡◌, Bor, List, ℕ, chars, string_bytes, sy
 use Rattle.std.proofs.lemmas.Str.{IsUtf8-string_bytes}
 use Rattle.test_token_sinks.proofs.PageLemmas.{said_on, shown_of, shown-without, shown-by_rule, shown-other}
 use Rattle.test_token_sinks.proofs.preformatted_text.PreformattedText.say.Goals as goal
-use Rattle.test_token_sinks.proofs.preformatted_text.PreformattedText.say.Goals.{then-self+then-first-eq10, else-self}
+use Rattle.test_token_sinks.proofs.preformatted_text.PreformattedText.say.Goals.{else-self, else-self-via-else-self}
 use Rattle.test_token_sinks.proofs.preformatted_text.PreformattedText.say.Goals.{else-self-via-then-self+else-first-eq10}
-use Rattle.test_token_sinks.proofs.preformatted_text.PreformattedText.say.Goals.{else-self-via-else-self}
+use Rattle.test_token_sinks.proofs.preformatted_text.PreformattedText.say.Goals.{then-self+then-first-eq10}
 
 pub returns : goal.returns
 returns c =

@@ -2,7 +2,7 @@ use Rattle.std.proofs.Common.{ap, sym, ◌∙◌, refl}
 use Rattle.std.specs.Prelude.{Err}
 use Rattle.std.proofs.lemmas.Result.{err_from_is_err_and, on_ok_weaker}
 use Rattle.text_normal.proofs.WordLemmas.{empty_text, some_text}
-use Rattle.text_normal.proofs.MarkedLemmas.{adds_nothing, adds_words, meets_at_rides, meets_behind}
+use Rattle.text_normal.proofs.MarkedLemmas.{adds_nothing, adds_words, meets_at_rides, meets_after}
 use Rattle.text_normal.proofs.marked.MarkedText.add_words.Goals as goal
 
 pub returns-then-is_empty-clause-words : goal.returns-then-is_empty-clause-words
@@ -24,5 +24,5 @@ returns-clause-words g c =
 
 pub returns-clause-narrow : goal.returns-clause-narrow
 returns-clause-narrow g c = λ e.
-    meets_behind g.T.EqualCopy.seen c.args.self.now c.add_rides.new.text c.deref.result.now _ _
+    meets_after g.T.EqualCopy.seen c.args.self.now c.add_rides.new.text c.deref.result.now _ _
     c.in_ok-add_rides.ensures.read (c.add_text.ensures.narrow e)

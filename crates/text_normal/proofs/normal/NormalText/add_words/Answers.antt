@@ -10,7 +10,7 @@ push_words-requires g c =
 pub returns-clause-read : goal.returns-clause-read
 returns-clause-read g c =
     words_taken g.T.EqualCopy.seen c.args.self.now _ c.args.text.now c.args.after.now c.split_before.result.0.now
-    c.words_in_front-columns.result.1.now c.split_before.result.1.now c.in-Some.behind.now
+    c.words_in_front-columns.result.1.now c.split_before.result.1.now c.in-Some.trailing.now
     c.words_in_front-columns.result.0 c.room.result c.args.read c.in-Some.c (g.T.EqualCopy.seen c.args.tag.now)
     (c.awaits_word.ensures c.if-not-awaits_word.false) c.utf8.text
     (subst IsUtf8 (sym c.split_before.ensures.rest) c.words_in_front-columns.ensures.text) c.requires

@@ -3,8 +3,8 @@ use Rattle.std.proofs.lemmas.Str.{chars-nil}
 use Rattle.text_preserved.specs.SourceLines.{pass_of}
 use Rattle.text_preserved.proofs.BodyLemmas.{steady_on, steady_front, same_fit, or_left, or_right}
 use Rattle.text_preserved.proofs.source_line.SourceLine.steady_front.Goals as goal
-use Rattle.text_preserved.proofs.source_line.SourceLine.steady_front.Goals.{then-self-via-then-self}
 use Rattle.text_preserved.proofs.source_line.SourceLine.steady_front.Goals.{then-self-via-else-self+then-self-2}
+use Rattle.text_preserved.proofs.source_line.SourceLine.steady_front.Goals.{then-self-via-then-self}
 
 pub returns-then-self-clause-parts : goal.returns-then-self-clause-parts
 returns-then-self-clause-parts g c =

@@ -1,8 +1,7 @@
 use Rattle.std.proofs.Common.{◌≡◌, true, [], sym, subst, ap, ◌∙◌}
 use Rattle.tree_forest.specs.Orders.{AreDistinct, IsIn}
 use Rattle.tree_model.specs.Building.{Parts, are_counted, stack_of}
-use Rattle.tree_model.proofs.CountedLemmas.{counted_less, divided_names, is_counted, is_in_them, left_names}
-use Rattle.tree_model.proofs.CountedLemmas.{names_in}
+use Rattle.tree_model.proofs.CountedLemmas.{counted_less, divided_names, is_counted, is_in_them, left_names, names_in}
 use Rattle.tree_model.proofs.CountedLemmas.{none_left_counted}
 use Rattle.tree_model.specs.OpenElements.{farther, nearer}
 use Rattle.tree_model.proofs.held.Held.take_off.Goals as goal
