@@ -1,4 +1,7 @@
-pub mod Lines
-pub mod Seen
-pub mod Settings
-pub mod Walks
+pub mod ArticleValues
+pub mod BlockCalls
+pub mod Calls
+pub mod Exchanges
+pub mod Layouts
+pub mod Paragraphs
+pub mod Showing

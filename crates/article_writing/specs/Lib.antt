@@ -1,2 +1,1 @@
-pub mod Contents
-pub mod Emits
+pub mod Tells

@@ -8,5 +8,5 @@ pub mod RawReads
 pub mod ReadsLemmas
 pub mod ReadyLemmas
 pub mod RunLemmas
-pub mod EmitsLemmas
+pub mod TellsLemmas
 pub mod Undecided

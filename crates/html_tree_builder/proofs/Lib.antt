@@ -1,4 +1,1 @@
-pub mod BegunLemmas
-pub mod FitLemmas
-pub mod FragmentLemmas
 pub mod ReadLemmas

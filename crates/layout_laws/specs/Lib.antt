@@ -1,2 +1,1 @@
-pub mod BareLaws
-pub mod WalkLaws
+pub mod LayoutLaws

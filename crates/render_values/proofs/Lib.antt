@@ -1,5 +1,5 @@
-pub mod ArenaLemmas
 pub mod CellLemmas
-pub mod ClosingLemmas
+pub mod ArenaLemmas
 pub mod EmptinessLemmas
+pub mod ClosingLemmas
 pub mod RaisingLemmas

@@ -1,7 +1,5 @@
-pub mod AnnotationCopies
-pub mod Annotations
-pub mod Colours
-pub mod Laws
-pub mod Marks
-pub mod Steady
 pub mod Texts
+pub mod Steady
+pub mod Annotations
+pub mod AnnotationCopies
+pub mod Laws

@@ -5,3 +5,4 @@ pub mod Joins
 pub mod Modes
 pub mod Retagged
 pub mod Sources
+pub use Rattle.tagged_lines.specs.Columns

@@ -1,10 +1,11 @@
-pub mod BlockLaws
 pub mod BlockLemmas
-pub mod BlockRetagged
-pub mod BlockWidths
-pub mod CopyLemmas
 pub mod NormalBlocks
 pub mod NormalPadding
-pub mod NothingLemmas
+pub mod BlockRetagged
+pub mod BlockLaws
+pub mod BlockWidths
 pub mod ShowingLemmas
+pub mod CopyLemmas
+pub mod NothingLemmas
 mod WholeLines
+pub use Rattle.wrapping_laws.proofs.WordLemmas

@@ -1,0 +1,2 @@
+pub mod ArticleValues
+pub use Rattle.written_articles.specs.Contents

@@ -1,0 +1,2 @@
+pub mod ArticlesLaid
+pub use Rattle.article_walk.specs.Pages

@@ -1,4 +1,0 @@
-pub mod ImageLemmas
-pub mod StackLemmas
-pub mod StrikingLemmas
-pub mod TextLemmas

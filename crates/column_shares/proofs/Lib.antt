@@ -1,0 +1,3 @@
+mod AcrossLemmas
+mod FitLemmas
+mod ShareLemmas

@@ -1,0 +1,5 @@
+pub mod Edges
+pub mod OneByOne
+pub mod RowWords
+pub mod TheWidths
+pub mod Widths

@@ -1,0 +1,6 @@
+pub mod CommandRules
+pub mod CommandWords
+pub mod FaultTexts
+pub mod FoundWords
+pub mod Requests
+pub mod WordFaults

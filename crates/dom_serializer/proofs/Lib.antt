@@ -1,0 +1,3 @@
+pub mod NodeLemmas
+pub mod TurnLemmas
+pub mod StepLemmas

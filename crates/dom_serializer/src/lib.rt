@@ -1,0 +1,30 @@
+//! Trees in memory, emitted to serializers (WHATWG HTML, 13.3).
+//!
+//! # What is proved
+//!
+//! - `SerializableHandle::new`: the tree and the handle that it was given
+//! - `serialize` of `Serialize`: the calls of the walk of that tree's forest from that node on; a handle that isn't
+//!   of the tree stands for a document without children
+//! - `SerializeDom::serialize` of `RcDom`: what `serialize` of html_serializer does of the document, with the
+//!   default options: the writer has grown by the walk's text, or by a beginning of it (`ok`, `part`, `stays`,
+//!   `failed`, `kinds`)
+//!
+//! It takes no stack for a deep tree, and copies no name or text. Tested by the stored run of `html_serialize`: a
+//! page of misnested lines, whose written form is that of another parser (html5lib 1.1) but for three places in
+//! which that one follows older rules (`>` in a value, a no-break space by its name, templates); these were set by
+//! the standard's words, once both were seen. `rt plant` ran on this crate before `SerializeDom` was there: the
+//! three wrong bodies that it could judge are refused; it could judge none of `new`.
+#![tactic(auto)]
+
+mod first;
+mod handle;
+mod inner;
+mod telling;
+mod turn;
+mod visits;
+mod whole_dom;
+
+pub use handle::SerializableHandle;
+pub use html_render_dom;
+pub use html_serializer;
+pub use whole_dom::SerializeDom;

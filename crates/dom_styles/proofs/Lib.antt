@@ -1,4 +1,0 @@
-mod CascadeLemmas
-mod FunctionLemmas
-mod KeyLemmas
-mod StyleLemmas

@@ -1,5 +1,0 @@
-pub mod Dumps
-pub mod Marks
-pub mod Steps
-pub mod ToCome
-pub mod Turns

@@ -1,0 +1,5 @@
+mod BasicTable
+mod NamedEscapes
+mod NamedReferences
+pub mod ReadTexts
+pub mod ReadValues

@@ -1,0 +1,17 @@
+pub mod ElementLemmas
+pub mod KeptForests
+pub mod LawAlike
+pub mod LawAttributes
+pub mod LawLists
+pub mod LawNodes
+pub mod LawPlaces
+pub mod LawTexts
+pub mod MadeNodes
+pub mod MovedNodes
+pub mod Nodes
+pub mod Numbers
+pub mod ParentChanges
+pub mod PathLemmas
+pub mod Relations
+pub mod Reparenting
+pub mod StandingLemmas

@@ -1,0 +1,10 @@
+use Rattle.html_grammar.specs.Classes.{is_of}
+use Rattle.html_grammar.proofs.SliceLemmas.{IsSplitting}
+use Rattle.html_grammar.proofs.slices.split_while.Given as goal
+
+abbrev pub invariant-split : goal.invariant-split
+invariant-split l = record {
+  so_far : IsSplitting (is_of l.class) l.text l.c-iterator.rest.now l.length;
+  can_next : (goal.iterator-split).can_next l.c-iterator;
+  is_finite : (goal.iterator-split).is_finite l.c-iterator;
+}

@@ -1,0 +1,17 @@
+pub mod CleanAdoption
+pub mod CleanLists
+pub mod CleanWords
+pub mod ForestTexts
+pub mod GroupRows
+pub mod KeptItems
+pub mod KeptPages
+pub mod KeptRule
+pub mod MildEnds
+pub mod MildRows
+pub mod MildStarts
+pub mod PlainNames
+pub mod PlainStates
+pub mod SpokenActions
+pub mod TextRows
+pub mod UsualModes
+pub mod WordTexts

@@ -1,0 +1,4 @@
+pub mod FindLemmas
+pub mod KnownLemmas
+pub mod NameLemmas
+pub mod WordLemmas

@@ -1,4 +1,0 @@
-pub mod Begins
-pub mod Items
-pub mod LayoutState
-pub mod Seen

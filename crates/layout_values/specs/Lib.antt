@@ -1,3 +1,0 @@
-pub mod Lay
-pub mod Seen
-pub mod Continuation

@@ -1,0 +1,5 @@
+pub mod LastLemmas
+pub mod NumberLemmas
+pub mod OnceLemmas
+pub mod SharedLemmas
+pub mod TextLemmas

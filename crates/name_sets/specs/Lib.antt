@@ -1,0 +1,6 @@
+pub mod Counts
+pub mod ElementSets
+pub mod RowWords
+pub mod Sets
+pub mod TagSets
+pub mod Wanted

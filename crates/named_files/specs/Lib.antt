@@ -1,0 +1,2 @@
+pub mod OpenedFiles
+pub mod TableFiles

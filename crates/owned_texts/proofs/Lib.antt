@@ -1,0 +1,1 @@
+pub mod Utf8Order

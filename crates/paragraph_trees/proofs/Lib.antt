@@ -1,0 +1,7 @@
+mod BodyModes
+mod FirstTags
+mod NamedCharacters
+mod OneList
+mod PagesRead
+mod PagesTrees
+mod TextsRead

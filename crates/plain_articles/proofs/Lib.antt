@@ -1,0 +1,2 @@
+pub mod SameContents
+pub mod SameLayouts

@@ -1,0 +1,3 @@
+pub mod PlainArticles
+pub mod PlainContents
+pub mod PlainLayouts

@@ -1,0 +1,16 @@
+mod Adopting
+mod Asking
+mod AtOnce
+mod BlockNames
+mod BlockSteps
+mod Blocks
+mod Documents
+mod Growing
+mod InlineNames
+mod Inlines
+mod Pages
+mod Planting
+mod Said
+mod Standing
+mod Sublists
+mod WholeStates

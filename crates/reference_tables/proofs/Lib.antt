@@ -1,0 +1,12 @@
+pub mod JsonLemmas
+pub mod LongerNames
+pub mod LongestNames
+pub mod NameTests
+pub mod PairsRead
+pub mod SortedEntries
+pub mod SoundReferences
+pub mod TableBeginnings
+pub mod TableSearch
+pub mod TextFronts
+pub mod TextOrder
+pub use Rattle.owned_texts.proofs.Utf8Order

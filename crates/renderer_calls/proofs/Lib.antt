@@ -1,0 +1,4 @@
+pub mod StrikingLemmas
+pub mod StackLemmas
+pub mod ImageLemmas
+pub mod TextLemmas

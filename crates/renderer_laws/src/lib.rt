@@ -1,0 +1,15 @@
+//! What holds of every renderer, said without what its calls do: laws, beside `block_renderer`.
+#![tactic(auto)]
+
+mod bare;
+mod laws;
+
+pub use bare::annotations_change_no_text;
+pub use block_renderer::{
+    BorderHoriz, BorderSegHoriz, ImageRenderMode, LineSet, RenderLine, RenderOptions, Renderer,
+    SubRenderer,
+};
+pub use laws::{
+    a_prefix_and_its_room_are_the_width, renderers_keep_the_width, renderers_with_room_never_refuse,
+};
+pub use layout_laws::{calls_keep_the_width, cells_hang_until_a_row, overflow_never_refuses};

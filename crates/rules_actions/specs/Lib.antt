@@ -1,4 +1,0 @@
-pub mod Follows
-pub mod Forms
-pub mod Outcomes
-pub mod Parsed

@@ -1,2 +1,0 @@
-pub mod EncodingLemmas
-pub mod ReadyLemmas

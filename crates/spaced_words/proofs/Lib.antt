@@ -1,0 +1,2 @@
+pub mod SpacedLemmas
+pub mod SpacedEnds

@@ -1,0 +1,4 @@
+mod KeyLemmas
+mod CascadeLemmas
+mod StyleLemmas
+mod FunctionLemmas

@@ -1,0 +1,16 @@
+mod AboveLemmas
+mod AcrossLemmas
+mod CellLemmas
+mod EachLemmas
+mod FormLemmas
+mod GapLemmas
+mod LawLemmas
+mod LeftLemmas
+mod MergeLemmas
+mod PageLemmas
+mod ReachLemmas
+mod RowLemmas
+mod SlotLemmas
+mod StandLemmas
+mod TableLemmas
+mod WholeLemmas

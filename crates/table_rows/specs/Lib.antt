@@ -1,0 +1,4 @@
+pub mod RowLaws
+pub mod RowParts
+pub mod Slots
+pub mod Tables

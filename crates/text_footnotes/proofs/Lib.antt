@@ -1,8 +1,0 @@
-pub mod CutLemmas
-pub mod LastLemmas
-pub mod NumberLemmas
-pub mod OnceLemmas
-pub mod RunLemmas
-pub mod SharedLemmas
-pub mod TextLemmas
-pub mod WidthLemmas

@@ -1,0 +1,3 @@
+pub mod BegunLemmas
+pub mod FitLemmas
+pub mod FragmentLemmas

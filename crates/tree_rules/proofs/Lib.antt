@@ -1,0 +1,2 @@
+pub mod ReadyLemmas
+pub use Rattle.html_tree_state.proofs.OpenLemmas

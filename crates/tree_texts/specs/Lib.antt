@@ -1,0 +1,3 @@
+pub mod TextClasses
+pub mod TextRuns
+pub use Rattle.tree_ranks.specs.Falls

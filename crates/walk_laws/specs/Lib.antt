@@ -1,0 +1,12 @@
+pub mod BareLaws
+pub mod WalkLaws
+pub use Rattle.render_walk.specs.Around
+pub use Rattle.render_walk.specs.Begins
+pub use Rattle.render_walk.specs.Items
+pub use Rattle.render_walk.specs.Laying
+pub use Rattle.render_walk.specs.Lay
+pub use Rattle.renderer_laws.specs.RendererLaws
+pub use Rattle.text_block_renderer.specs.Parts
+pub use Rattle.text_block_renderer.specs.PartLaws
+pub use Rattle.text_block_renderer.specs.SeenParts
+pub use Rattle.text_block_renderer.specs.PlainText

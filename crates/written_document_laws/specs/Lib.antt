@@ -1,4 +1,0 @@
-pub mod Documents
-pub mod Emissions
-pub mod Trees
-pub mod Written
