@@ -6,7 +6,7 @@ set -eu
 here=$(cd "$(dirname "$0")" && pwd)
 . "$here/copy.sh"
 build_program "$here" dump_trees \
-  "dom_dump html_forest html_tree_builder html_render_dom thiserror" '<p>' dump
+  "dom_writing tree_forest html_tree_builder html_render_dom thiserror" '<p>' dump
 
 tell() {
   read -r bytes written dropped < <("$crate/out/dump_trees" "$2" <"$folder/page")

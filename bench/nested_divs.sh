@@ -7,9 +7,9 @@ here=$(cd "$(dirname "$0")" && pwd)
 . "$here/copy.sh"
 folder=${BENCH:-${TMPDIR:-/tmp}/nested_divs_bench}
 crate=$folder/crates/nested_divs
-below="known_names owned_texts byte_devices reference_tables html_lexemes html_forest forest_trees name_sets"
-below="$below html_serializer formatting_list tree_words tree_building html_tree_state"
-below="$below tagged_lines text_marks text_pieces style_cascade html_render_dom"
+below="lex_base lex_base lex_base lex_base html_lexemes tree_forest tree_forest tree_names"
+below="$below tree_serializer tree_formatting tree_predicates tree_model html_tree_state"
+below="$below text_lines text_decorators text_pieces dom_styles html_render_dom"
 mkdir -p "$crate/src" "$crate/proofs/nest"
 copy_crates "$here" "$folder" $below
 {

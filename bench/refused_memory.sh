@@ -36,8 +36,8 @@ try_tests() {
   (cd "$here/../crates/$1" && rt test >/dev/null 2>&1)
   python3 "$here/refused_tests.py" "$here/../crates/$1/out/$1_tests" "${@:2}" || true
 }
-try_tests page_rows page_rows::a_refused_growth_is_reported word_rows::reads_lines_or_refuses \
+try_tests test_pages page_rows::a_refused_growth_is_reported word_rows::reads_lines_or_refuses \
   decoder_rows::replaces_in_single_bytes_or_refuses refused_rows::pages_are_answered_or_refused \
   refused_rows::tables_have_their_fault_or_are_refused refused_rows::a_refused_page_goes_no_further
-try_tests page_rows fault_rows::a_refused_growth_changes_no_answer written_rows::a_refused_growth_is_reported \
+try_tests test_pages fault_rows::a_refused_growth_changes_no_answer written_rows::a_refused_growth_is_reported \
   article_rows::an_article_is_laid_out_or_refused

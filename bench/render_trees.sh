@@ -6,7 +6,7 @@ set -eu
 here=$(cd "$(dirname "$0")" && pwd)
 . "$here/copy.sh"
 build_program "$here" render_trees \
-  "html_forest html_tree_builder html_render_dom render_values render_sizes render_conversion thiserror" '<p>x'
+  "tree_forest html_tree_builder html_render_dom render_values render_sizes render_conversion thiserror" '<p>x'
 
 tell() {
   read -r nodes converted sized copied dropped < <("$crate/out/render_trees" <"$folder/page")

@@ -8,13 +8,13 @@ here=$(cd "$(dirname "$0")" && pwd)
 piece=${1:-64}
 folder=${BENCH:-${TMPDIR:-/tmp}/count_tokens_bench}
 crate=$folder/crates/count_tokens
-below="known_names owned_texts byte_devices reference_tables"
-below="$below html_lexemes parse_errors html_grammar lexeme_places html_tokenizer"
+below="lex_base lex_base lex_base lex_base"
+below="$below html_lexemes token_errors token_grammar token_states html_tokenizer"
 mkdir -p "$crate/src" "$crate/proofs/count"
 copy_crates "$here" "$folder" $below
 {
   for name in $below; do grep "^$name:" "$here/../crates.txt"; done
-  echo 'count_tokens: html_lexemes parse_errors html_grammar lexeme_places html_tokenizer thiserror'
+  echo 'count_tokens: html_lexemes token_errors token_grammar token_states html_tokenizer thiserror'
 } >"$folder/crates.txt"
 cp "$here/count_tokens/main.rt.txt" "$crate/src/main.rt"
 cp "$here/count_tokens/Invariants.antt.txt" "$crate/proofs/count/Invariants.antt"

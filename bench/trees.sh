@@ -6,7 +6,7 @@ set -eu
 here=$(cd "$(dirname "$0")" && pwd)
 . "$here/copy.sh"
 build_program "$here" count_trees \
-  "html_forest html_tree_builder html_render_dom thiserror" '<p>' 64 1
+  "tree_forest html_tree_builder html_render_dom thiserror" '<p>' 64 1
 
 tell() {
   bytes=$(stat -c %s "$folder/page")

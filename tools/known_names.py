@@ -3,13 +3,13 @@
 
     tools/known_names.py [--check] [--add NAME]
 
-The list is the definition `known_text` in crates/known_names/specs/Known.antt, a line a name; --add NAME writes that
+The list is the definition `known_text` in crates/lex_base/specs/Known.antt, a line a name; --add NAME writes that
 line first. Written from it are
 
-- in known_names the enum `KnownName`, its texts, `all_known`, the table by which a text is looked up with its hash, and
+- in lex_base the enum `KnownName`, its texts, `all_known`, the table by which a text is looked up with its hash, and
   the lemma that goes through all names;
-- in name_sets the table of each set, by the definition of the set in specs/, and which count each name has;
-- in tag_groups the group of each name, by `tag_groups` in specs/Groups.antt;
+- in tree_names the table of each set, by the definition of the set in specs/, and which count each name has;
+- in tree_names the group of each name, by `tree_names` in specs/Groups.antt;
 - the edits that change a line of one of these tables.
 
 So a name that belongs to a set or a group is added to its definition by hand, before the run. The names are numbered in
@@ -26,16 +26,16 @@ import sys
 
 TOP = os.path.dirname(os.path.dirname(os.path.realpath(__file__)))
 PLACES, SHARED, COLUMNS = 1024, 128, 99
-KNOWN, FIND = "crates/known_names/src/known.rt", "crates/known_names/src/find.rt"
-NAMES = "crates/known_names/specs/Known.antt"
-LEMMAS, FIND_LEMMAS = "crates/known_names/proofs/KnownLemmas.antt", "crates/known_names/proofs/FindLemmas.antt"
-TABLES, COUNTS = "crates/name_sets/src/tables.rt", "crates/name_sets/src/counts.rt"
-GROUPS, GROUP_WORDS = "crates/tag_groups/src/names.rt", "crates/tag_groups/specs/Groups.antt"
-SIZED = (KNOWN, FIND, TABLES, COUNTS, GROUPS, "crates/name_sets/src/element_sets.rt")
-SETS = [f"crates/name_sets/specs/{it}.antt" for it in ("ElementSets", "TagSets", "Counts")]
+KNOWN, FIND = "crates/lex_base/src/known.rt", "crates/lex_base/src/find.rt"
+NAMES = "crates/lex_base/specs/Known.antt"
+LEMMAS, FIND_LEMMAS = "crates/lex_base/proofs/KnownLemmas.antt", "crates/lex_base/proofs/FindLemmas.antt"
+TABLES, COUNTS = "crates/tree_names/src/tables.rt", "crates/tree_names/src/counts.rt"
+GROUPS, GROUP_WORDS = "crates/tree_names/src/names.rt", "crates/tree_names/specs/Groups.antt"
+SIZED = (KNOWN, FIND, TABLES, COUNTS, GROUPS, "crates/tree_names/src/element_sets.rt")
+SETS = [f"crates/tree_names/specs/{it}.antt" for it in ("ElementSets", "TagSets", "Counts")]
 # A table's definition has the table's name, in lower case, or this one.
 DEFINITIONS = {"SPECIAL": "special_elements", "VOID": "void_elements"}
-# Edits of name_sets that put one name into a table, or take it out.
+# Edits of tree_names that put one name into a table, or take it out.
 TURNED = {
     "special_has_a_name_too_many": ("SPECIAL", "span"),
     "has_implied_end_tag_lacks_rtc": ("IMPLIED_END_TAGS", "rtc"),
@@ -204,7 +204,7 @@ def write_exchange(files, numbers, none):
         old = ", ".join(row) + ","
         if none not in row[3:5] and files.text(FIND).count(old) == 1:
             turned = [*row[:3], row[4], row[3], row[5]]
-            write_edit(files, "known_names", "two_numbers_are_exchanged", FIND, old, ", ".join(turned) + ",")
+            write_edit(files, "lex_base", "two_numbers_are_exchanged", FIND, old, ", ".join(turned) + ",")
             return
     raise Refused(f"no two numbers in {FIND} stand beside one another")
 
@@ -229,7 +229,7 @@ def write_sets(files, names, words):
             flags = line.strip(" ,").split(", ")
             if at < len(flags):
                 flags[at] = "false" if flags[at] == "true" else "true"
-                write_edit(files, "name_sets", edit, TABLES, line, f"    {', '.join(flags)},")
+                write_edit(files, "tree_names", edit, TABLES, line, f"    {', '.join(flags)},")
                 break
             at -= len(flags)
 
@@ -251,10 +251,10 @@ def write_counts(files, names, words):
 
 
 def write_groups(files, names, words):
-    """The group of each name: that of the first row of `tag_groups` that has it."""
+    """The group of each name: that of the first row of `tree_names` that has it."""
     rows = re.findall(r"\(([^(]*), groups\.(\w+)\)", files.text(GROUP_WORDS).partition("\ntag_groups =")[2])
     groups = {name: group for held, group in reversed(rows) for name in words.read(held)}
-    stop_on_unknown("tag_groups", groups, names)
+    stop_on_unknown("tree_names", groups, names)
     lines = [f"    TagGroup::{groups.get(it, 'Other')}, // {it}\n" for it in names]
     files.put_table(GROUPS, "static GROUPS", lines)
 

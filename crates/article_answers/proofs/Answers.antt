@@ -1,30 +1,30 @@
 -- What is answered of an article's page is the article's own answer.
-use Rattle.std.proofs.Common.{◌≡◌, ℕ, zero, suc, ◌<◌, Bool, false, List, Option, None, ⊎_elim, refl, sym, ap, subst}
-use Rattle.std.proofs.Common.{◌∙◌, arith}
+use Rattle.std.proofs.Common.{◌≡◌, ◌<◌, ⊎_elim, ◌∙◌, Bool, List, None, Option, ap, arith, false, refl, subst, suc, sym}
+use Rattle.std.proofs.Common.{zero, ℕ}
 use Rattle.article_answers.specs.ArticleAnswers.{IsForArticles, IsWritten, answer_of, article_answer, options_for}
-use Rattle.article_conversion.specs.ArticleValues.{AreRulesOf}
-use Rattle.article_layout.specs.ArticleValues.{page_values}
-use Rattle.article_layout.specs.Layouts.{Options}
-use Rattle.article_rendering.specs.ArticlesLaid.{AreLaidAs, options_by, shown_lines}
+use Rattle.article_page_laws.specs.ArticleValues.{AreRulesOf}
+use Rattle.article_definitions.specs.ArticleValues.{page_values}
+use Rattle.article_definitions.specs.Layouts.{Options}
+use Rattle.article_page_laws.specs.ArticlesLaid.{AreLaidAs, options_by, shown_lines}
 use Rattle.article_values.specs.Articles.{Blocks}
 use Rattle.article_values.specs.Faults.{first_fault}
-use Rattle.escaped_texts.specs.Escaped.{KnowsEscapes}
-use Rattle.html_forest.specs.Forest.{Forest}
-use Rattle.html_forest.specs.declared.sink.QuirksMode.{QuirksMode}
-use Rattle.reference_tables.specs.References.{References}
-use Rattle.page_config.specs.Defaults.{default_parse}
+use Rattle.document_laws.specs.Escaped.{KnowsEscapes}
+use Rattle.tree_forest.specs.Forest.{Forest}
+use Rattle.tree_forest.specs.declared.sink.QuirksMode.{QuirksMode}
+use Rattle.lex_base.specs.References.{References}
+use Rattle.html_tree_builder.specs.Defaults.{default_parse}
 use Rattle.std.specs.Prelude.{IsUtf8, chars}
 use Rattle.page_config.specs.PageAnswers.{HasAnswer, IsAnswerOf, PageAnswer, fail, lines, too_narrow}
 use Rattle.page_config.specs.Settings.{PageSetting}
-use Rattle.page_config.specs.PageTrees.{IsTreeOfBytes}
+use Rattle.page_reading.specs.PageTrees.{IsTreeOfBytes}
 use Rattle.render_conversion.specs.Conversion.{document_values}
 use Rattle.render_values.specs.Values.{Values}
-use Rattle.style_cascade.specs.declared.rules.StyleRule.{StyleRule}
+use Rattle.dom_styles.specs.declared.rules.StyleRule.{StyleRule}
 use Rattle.text_block_renderer.specs.PlainText.{plain_closes, plain_marking}
-use Rattle.article_conversion.specs.Contents.{NumbersFit, article_text, article_tree}
+use Rattle.article_writing.specs.Contents.{NumbersFit, article_text, article_tree}
 use Rattle.article_answers.proofs.FilledTexts.{article_filled}
-use Rattle.article_rendering.specs.Pages.{AreFilledBlocks}
-use Rattle.page_config.specs.PageLines.{Setting}
+use Rattle.article_page_laws.specs.Pages.{AreFilledBlocks}
+use Rattle.html_render_tree.specs.PageLines.{Setting}
 
 abbrev pub HasItsTree : Type 0
 HasItsTree = (table : References) → KnowsEscapes table → (title : Option (List ℕ)) (blocks : Blocks)

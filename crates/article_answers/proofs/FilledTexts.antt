@@ -4,31 +4,30 @@ use Rattle.std.specs.Option.{option_or}
 use Rattle.article_values.specs.Articles.{Blocks, Inlines, Items, bullets, division, heading, item, line_break, link}
 use Rattle.article_values.specs.Articles.{no_blocks, no_inlines, no_items, numbers, paragraph, quote, span, words}
 use Rattle.article_values.specs.Faults.{fault_of_blocks, fault_of_inlines, fault_of_items, fault_of_title, fault_where}
-use Rattle.article_values.specs.Faults.{first_fault}
-use Rattle.article_values.specs.Faults.{has_forbidden, has_item, is_level, is_too_deep}
+use Rattle.article_values.specs.Faults.{first_fault, has_forbidden, has_item, is_level, is_too_deep}
 use Rattle.article_values.specs.declared.error.ArticleError.TheVariants.{BadLevel, EmptyList, ForbiddenCharacter}
 use Rattle.article_values.specs.declared.error.ArticleError.TheVariants.{LinkInLink, NeighbourTexts, TooDeep}
-use Rattle.article_rendering.specs.Pages.{AreFilled, AreFilledBlocks, AreFilledItems}
-use Rattle.article_conversion.proofs.Accepted.{both_none, passed}
+use Rattle.article_page_laws.specs.Pages.{AreFilled, AreFilledBlocks, AreFilledItems}
+use Rattle.article_writing.proofs.Accepted.{both_none, passed}
 
-inlines_filled : (d : ℕ) (linked behind : Bool) (is : Inlines) → fault_of_inlines d linked behind is ≡ None →
+inlines_filled : (d : ℕ) (linked trailing : Bool) (is : Inlines) → fault_of_inlines d linked trailing is ≡ None →
     AreFilled is
-inlines_filled d linked behind no_inlines h = tt
-inlines_filled d linked behind (words [] rest) h = cc
-inlines_filled d linked behind (words (c ∷ cs) rest) h =
+inlines_filled d linked trailing no_inlines h = tt
+inlines_filled d linked trailing (words [] rest) h = cc
+inlines_filled d linked trailing (words (c ∷ cs) rest) h =
     let later = fault_of_inlines d linked true rest in
-    let a = passed behind NeighbourTexts (fault_where (has_forbidden (c ∷ cs)) ForbiddenCharacter
+    let a = passed trailing NeighbourTexts (fault_where (has_forbidden (c ∷ cs)) ForbiddenCharacter
     (fault_where (is_too_deep d) TooDeep later)) h in
     let b = passed (has_forbidden (c ∷ cs)) ForbiddenCharacter (fault_where (is_too_deep d) TooDeep later) a.1 in
     inlines_filled d linked true rest (passed (is_too_deep d) TooDeep later b.1).1
-inlines_filled d linked behind (line_break rest) h =
+inlines_filled d linked trailing (line_break rest) h =
     inlines_filled d linked false rest (passed (is_too_deep d) TooDeep (fault_of_inlines d linked false rest) h).1
-inlines_filled d linked behind (span style kids rest) h =
+inlines_filled d linked trailing (span style kids rest) h =
     let within = fault_of_inlines (suc d) linked false kids in
     let later = fault_of_inlines d linked false rest in
     let a = both_none within later (passed (is_too_deep d) TooDeep (option_or within later) h).1 in
     (inlines_filled (suc d) linked false kids a.0, inlines_filled d linked false rest a.1)
-inlines_filled d linked behind (link target kids rest) h =
+inlines_filled d linked trailing (link target kids rest) h =
     let within = fault_of_inlines (suc d) true false kids in
     let later = fault_of_inlines d linked false rest in
     let a = passed (has_forbidden target) ForbiddenCharacter (fault_where linked LinkInLink

@@ -1,4 +1,4 @@
 mod Answers
 mod FilledTexts
-mod ToldLines
 mod PlainRules
+mod EmittedLines

@@ -1,19 +1,19 @@
 -- What is answered of the page that is written of an article: the article's own lines.
 use Rattle.std.specs.Prelude.{◌≡◌, ℕ, false, List, Option, None, Some, chars, map, IsUtf8}
-use Rattle.article_conversion.specs.ArticleValues.{AreRulesOf}
-use Rattle.article_laying.specs.Lines.{tag_of}
-use Rattle.article_laying.specs.declared.layout.ArticleLine.{ArticleLine}
-use Rattle.article_layout.specs.Layouts.{Options, Tag}
-use Rattle.article_rendering.specs.ArticlesLaid.{options_by, shown_lines}
+use Rattle.article_page_laws.specs.ArticleValues.{AreRulesOf}
+use Rattle.article_layout.specs.Lines.{tag_of}
+use Rattle.article_layout.specs.declared.layout.ArticleLine.{ArticleLine}
+use Rattle.article_definitions.specs.Layouts.{Options, Tag}
+use Rattle.article_page_laws.specs.ArticlesLaid.{options_by, shown_lines}
 use Rattle.article_values.specs.Articles.{Blocks}
 use Rattle.article_values.specs.Faults.{first_fault}
-use Rattle.escaped_texts.specs.Escaped.{KnowsEscapes}
-use Rattle.page_config.specs.Defaults.{default_parse}
+use Rattle.document_laws.specs.Escaped.{KnowsEscapes}
+use Rattle.html_tree_builder.specs.Defaults.{default_parse}
 use Rattle.page_config.specs.PageAnswers.{HasAnswer, PageAnswer, lines, too_narrow}
 use Rattle.page_config.specs.Settings.{PageSetting}
-use Rattle.tagged_lines.specs.Tagged.{Item, line_items}
+use Rattle.text_lines.specs.Tagged.{Item, line_items}
 use Rattle.text_block_renderer.specs.PlainText.{plain_closes, plain_marking}
-use Rattle.article_conversion.specs.Contents.{NumbersFit, article_text}
+use Rattle.article_writing.specs.Contents.{NumbersFit, article_text}
 
 -- Pages are parsed as by default, by a table that knows the names of escaped text; no rules of style stand but those
 -- that mark emphasis, strong text, terms and code, where these were asked for; and no part may pass the width.

@@ -2,15 +2,15 @@
 ghost use Rattle.std.specs.Prelude.{◌≡◌, ℕ, List, Option};
 ghost use Rattle.article_answers.specs.ArticleAnswers.{IsForArticles, IsWritten, article_answer};
 ghost use Rattle.article_values.specs.Articles.{Blocks};
-ghost use Rattle.escaped_texts.specs.Escaped.{KnowsEscapes};
-ghost use Rattle.reference_tables.specs.References.{References};
+ghost use Rattle.document_laws.specs.Escaped.{KnowsEscapes};
+ghost use Rattle.lex_base.specs.References.{References};
 ghost use Rattle.page_config.specs.PageAnswers.{HasAnswer, PageAnswer};
 ghost use Rattle.page_config.specs.PlainPages.{IsPlain};
 ghost use Rattle.page_config.specs.Settings.{PageSetting};
 ghost use Rattle.text_block_renderer.specs.PlainText.{plain_closes, plain_marking};
 
-use article_conversion::{articles_have_their_values, bytes_of_an_article_have_its_tree};
-use article_rendering::articles_are_laid;
+use article_page_laws::{articles_are_laid, articles_have_their_values};
+use article_writing::bytes_of_an_article_have_its_tree;
 
 /// What is written of an article, read however it is cut, built into a tree, converted and rendered as plain text, has
 /// the lines of the article at each width, or is too narrow just where the article has none: no text of it is markup,

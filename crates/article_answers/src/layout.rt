@@ -1,26 +1,27 @@
 //! The lines of an article, by what pages are read and rendered by.
-ghost use Rattle.std.specs.Prelude.{◌≡◌, ◌≢◌, ◌⊎◌, ◌≤◌, ℕ, false, List, Option, filter, flat_map, length, map};
-ghost use Rattle.std.specs.Prelude.{Some, None, Err, IfErr, IfOk};
+ghost use Rattle.std.specs.Prelude.{◌≡◌, ◌≢◌, ◌⊎◌, ◌≤◌, Err, IfErr, IfOk, List, None, Option, Some, false, filter};
+ghost use Rattle.std.specs.Prelude.{flat_map, length, map, ℕ};
 ghost use Rattle.std.specs.Option.{option_map};
 ghost use Rattle.article_answers.specs.ArticleAnswers.{IsAnswerToPage, options_for, shown_of};
-ghost use Rattle.article_laying.specs.Seen.{others_told, told, told_of};
-ghost use Rattle.article_laying.specs.Settings.{options_of};
-ghost use Rattle.article_layout.specs.Exchanges.{Differ, others};
-ghost use Rattle.article_layout.specs.Layouts.{Line as SeenLine, Stretch, Tag, article_lines, stretch_lines, wrap_at};
-ghost use Rattle.article_layout.specs.Paragraphs.{AreParagraphs};
-ghost use Rattle.article_layout.specs.Showing.{is_visible, visible_of};
+ghost use Rattle.article_layout.specs.Seen.{others_emitted, emitted, emitted_of};
+ghost use Rattle.article_layout.specs.Settings.{options_of};
+ghost use Rattle.article_definitions.specs.Exchanges.{Differ, others};
+ghost use Rattle.article_definitions.specs.Layouts.{Line as SeenLine, Stretch, Tag, article_lines, stretch_lines};
+ghost use Rattle.article_definitions.specs.Layouts.{wrap_at};
+ghost use Rattle.article_definitions.specs.Paragraphs.{AreParagraphs};
+ghost use Rattle.article_definitions.specs.Showing.{is_visible, visible_of};
 ghost use Rattle.article_values.specs.Articles.{Blocks as SeenBlocks};
-ghost use Rattle.normal_text.specs.Layout.{IsLayout, Mark, marks};
-ghost use Rattle.normal_text.specs.Letters.{codes_of, has_marker, letters_of};
-ghost use Rattle.normal_text.specs.Riders.{has_wide_text};
+ghost use Rattle.text_normal.specs.Layout.{IsLayout, Mark, marks};
+ghost use Rattle.text_normal.specs.Letters.{codes_of, has_marker, letters_of};
+ghost use Rattle.text_normal.specs.Riders.{has_wide_text};
 ghost use Rattle.page_config.specs.PageAnswers.{lines, too_narrow};
 ghost use Rattle.page_config.specs.Settings.{bare_setting};
 ghost use Rattle.page_config.specs.declared.error.Error.TheVariants as errors;
 
 use crate::laws::an_article_is_laid_out_as_itself;
-use article_conversion::first_numbers_fit;
-use article_laying::{ArticleLine, LineOptions, lay_article};
+use article_layout::{ArticleLine, LineOptions, lay_article};
 use article_values::Article;
+use article_writing::first_numbers_fit;
 use page_config::{Config, Error};
 use std::alloc::Global;
 use text_decorators::PlainDecorator;
@@ -53,9 +54,9 @@ pub trait LayArticle {
         config: &Config<PlainDecorator>,
         width: usize,
     ) -> Result<Vec<ArticleLine>, Error>
-        ensures lines { IfOk result (λ shown. option_map (map told)
+        ensures lines { IfOk result (λ shown. option_map (map emitted)
             (article_lines (options_for (bare_setting config.now)) width (blocks self.now))
-            ≡ Some (map told_of shown.items)) }
+            ≡ Some (map emitted_of shown.items)) }
         ensures narrow { result ≡ Err errors.TooNarrow
             → article_lines (options_for (bare_setting config.now)) width (blocks self.now) ≡ None }
         ensures page { IfOk result (λ shown. IsAnswerToPage (bare_setting config.now) width (title self.now)
@@ -72,7 +73,7 @@ pub trait LayArticle {
             → length (stretch_lines (options_for (bare_setting config.now)) columns s) ≤ length legal }
         ensures exchange { (n : ℕ) (changed : SeenBlocks) (ms : List SeenLine) → Differ n 0 (blocks self.now) changed
             → article_lines (options_for (bare_setting config.now)) width changed ≡ Some ms
-            → IfOk result (λ shown. others_told n (map told_of shown.items) ≡ map told (others n ms)) }
+            → IfOk result (λ shown. others_emitted n (map emitted_of shown.items) ≡ map emitted (others n ms)) }
         ensures paragraphs { 2 ≤ wrap_at (options_for (bare_setting config.now)) width
             → AreParagraphs (blocks self.now) → result ≢ Err errors.TooNarrow }
         ensures kinds { IfErr result (λ e. (e ≡ errors.TooNarrow) ⊎ (e ≡ errors.Memory)) };

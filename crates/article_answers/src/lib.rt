@@ -6,9 +6,9 @@
 //!   article is the article's own answer (`article_answer`): its lines, or that it is too narrow; never that there
 //!   is nothing to render
 //!
-//! - `LayArticle::layout` of `Article`: the lines are the article's own (`article_lines` of article_layout) by what
-//!   the configuration says of columns, filling, marks and targets, each with its characters, their annotations and
-//!   the number of its paragraph: `lines`; it is `TooNarrow` only where the article has none: `narrow`; else it is
+//! - `LayArticle::layout` of `Article`: the lines are the article's own (`article_lines` of article_definitions) by
+//!   what the configuration says of columns, filling, marks and targets, each with its characters, their annotations
+//!   and the number of its paragraph: `lines`; it is `TooNarrow` only where the article has none: `narrow`; else it is
 //!   refused where allocation fails: `kinds`
 //! - the same: whatever is answered by that configuration to the bytes of what `write_html` writes is these lines
 //!   (`page`), or that it is too narrow (`narrow_page`), where the configuration is for articles (`IsForArticles`)
@@ -32,7 +32,5 @@
 mod laws;
 mod layout;
 
-pub use article_laying::ArticleLine;
 pub use laws::{an_article_is_laid_out_as_itself, plain_configurations_are_for_articles};
 pub use layout::LayArticle;
-pub use page_config::{Config, Error};

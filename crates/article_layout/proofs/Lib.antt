@@ -1,9 +1,9 @@
-mod Alikes
-mod BlocksCalled
-mod Called
-mod Exchanged
-mod Narrow
-mod NeverRefused
-mod NotesCalled
-mod Shown
-mod ShownOnce
+pub mod ArticleLines
+pub mod ExchangedLines
+pub mod InlineLemmas
+pub mod LaidLines
+pub mod ListLemmas
+pub mod ParagraphLines
+pub mod QuoteSteps
+pub mod SaidRuns
+pub mod SayingSteps

@@ -1,7 +1,4 @@
-pub mod ArticleValues
-pub mod BlockCalls
-pub mod Calls
-pub mod Exchanges
-pub mod Layouts
-pub mod Paragraphs
-pub mod Showing
+pub mod Lines
+pub mod Seen
+pub mod Settings
+pub mod Walks

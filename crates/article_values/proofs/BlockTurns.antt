@@ -1,6 +1,6 @@
 -- A turn of the check of blocks, and of items.
-use Rattle.std.proofs.Common.{◌≡◌, ℕ, ℤ, Bool, true, false, not, ◌==◌, List, [], ◌∷◌, ◌+◌, ◌<◌, drop, get_or, length}
-use Rattle.std.proofs.Common.{map, Option, None, Some, Vec, Global, refl, sym, ap, ◌∙◌, add-one, drop-cons, suc}
+use Rattle.std.proofs.Common.{◌≡◌, ◌==◌, [], ◌∷◌, ◌+◌, ◌<◌, ◌∙◌, Bool, Global, List, None, Option, Some, Vec, add-one}
+use Rattle.std.proofs.Common.{ap, drop, drop-cons, false, get_or, length, map, not, refl, suc, sym, true, ℕ, ℤ}
 use Rattle.std.proofs.lemmas.Bool.{eqb-true}
 use Rattle.std.proofs.lemmas.List.{nil_from_length}
 use Rattle.std.specs.Option.{option_or}
@@ -19,38 +19,38 @@ first_of : {A : Type 0} (all : List A) (i : ℕ) (x : A) → i < length all → 
     drop i all ≡ x ∷ drop (i + 1) all
 first_of all i x h is = rw (add-one, drop-cons all i x h) (ap (λ y. y ∷ drop (suc i) all) (sym is))
 
-module _ (d : ℕ) (all : List Block) (i : ℕ) (x : Block) (told : Option ArticleError)
+module _ (d : ℕ) (all : List Block) (i : ℕ) (x : Block) (emitted : Option ArticleError)
     (whole : fault_of_blocks d (blocks_view all) ≡ fault_of_blocks d (blocks_view (drop i all)))
     (h : i < length all) (is : x ≡ get_or all i x)
-    (one : (rest : Blocks) → fault_of_blocks d (block_view x rest) ≡ option_or told (fault_of_blocks d rest)) where
+    (one : (rest : Blocks) → fault_of_blocks d (block_view x rest) ≡ option_or emitted (fault_of_blocks d rest)) where
   block_step_on : fault_of_blocks d (blocks_view all)
-      ≡ option_or told (fault_of_blocks d (blocks_view (drop (i + 1) all)))
+      ≡ option_or emitted (fault_of_blocks d (blocks_view (drop (i + 1) all)))
   block_step_on = whole ∙ ap (λ xs. fault_of_blocks d (blocks_view xs)) (first_of all i x h is)
       ∙ one (blocks_view (drop (i + 1) all))
 
-  pub block_goes_on : told ≡ None → fault_of_blocks d (blocks_view all)
+  pub block_goes_on : emitted ≡ None → fault_of_blocks d (blocks_view all)
       ≡ fault_of_blocks d (blocks_view (drop (i + 1) all))
   block_goes_on none = block_step_on ∙ ap (λ o. option_or o (fault_of_blocks d (blocks_view (drop (i + 1) all)))) none
 
-  pub block_stops : (e : ArticleError) → told ≡ Some e → Some e ≡ fault_of_blocks d (blocks_view all)
+  pub block_stops : (e : ArticleError) → emitted ≡ Some e → Some e ≡ fault_of_blocks d (blocks_view all)
   block_stops e some = sym (block_step_on
       ∙ ap (λ o. option_or o (fault_of_blocks d (blocks_view (drop (i + 1) all)))) some)
 
 module _ (d : ℕ) (all : List (Vec Block Global)) (i : ℕ) (x : Vec Block Global) (its_blocks : List Block)
-    (told : Option ArticleError)
+    (emitted : Option ArticleError)
     (whole : fault_of_items d (items_view all) ≡ fault_of_items d (items_view (drop i all)))
     (h : i < length all) (is : x ≡ get_or all i x) (same : its_blocks ≡ x.items)
-    (one : told ≡ fault_of_blocks d (blocks_view its_blocks)) where
-  item_step_on : fault_of_items d (items_view all) ≡ option_or told (fault_of_items d (items_view (drop (i + 1) all)))
+    (one : emitted ≡ fault_of_blocks d (blocks_view its_blocks)) where
+  item_step_on : fault_of_items d (items_view all) ≡ option_or emitted (fault_of_items d (items_view (drop (i + 1) all)))
   item_step_on = whole ∙ ap (λ xs. fault_of_items d (items_view xs)) (first_of all i x h is)
       ∙ ap (λ ks. option_or (fault_of_blocks d (blocks_view ks)) (fault_of_items d (items_view (drop (i + 1) all))))
       (sym same)
       ∙ ap (λ o. option_or o (fault_of_items d (items_view (drop (i + 1) all)))) (sym one)
 
-  pub item_goes_on : told ≡ None → fault_of_items d (items_view all) ≡ fault_of_items d (items_view (drop (i + 1) all))
+  pub item_goes_on : emitted ≡ None → fault_of_items d (items_view all) ≡ fault_of_items d (items_view (drop (i + 1) all))
   item_goes_on none = item_step_on ∙ ap (λ o. option_or o (fault_of_items d (items_view (drop (i + 1) all)))) none
 
-  pub item_stops : (e : ArticleError) → told ≡ Some e → Some e ≡ fault_of_items d (items_view all)
+  pub item_stops : (e : ArticleError) → emitted ≡ Some e → Some e ≡ fault_of_items d (items_view all)
   item_stops e some = sym (item_step_on ∙ ap (λ o. option_or o (fault_of_items d (items_view (drop (i + 1) all)))) some)
 
 pub blocks_end : (d : ℕ) (all : List Block) (i : ℕ) →
@@ -91,10 +91,10 @@ seen_bullets items rest =
     ∙ ap (λ xs. bullets xs rest) (fused _ (λ v. v.items) (λ v. refl) items.items)
 
 pub bullets_case : (v : Block) (d : ℕ) (items : Vec (Vec Block Global) Global) (slice : List (Vec Block Global))
-    (told : Option ArticleError) (rest : Blocks) → v ≡ views.Bullets items → slice ≡ items.items →
-    told ≡ list_fault d (items_view slice) → fault_of_blocks d (block_view v rest)
-    ≡ option_or told (fault_of_blocks d rest)
-bullets_case v d items slice told rest is e h =
+    (emitted : Option ArticleError) (rest : Blocks) → v ≡ views.Bullets items → slice ≡ items.items →
+    emitted ≡ list_fault d (items_view slice) → fault_of_blocks d (block_view v rest)
+    ≡ option_or emitted (fault_of_blocks d rest)
+bullets_case v d items slice emitted rest is e h =
     ap (λ v. fault_of_blocks d (block_view v rest)) is
     ∙ ap (fault_of_blocks d) (seen_bullets items rest)
     ∙ ap (λ xs. fault_of_blocks d (bullets (items_view xs) rest)) (sym e)
@@ -111,10 +111,10 @@ seen_numbers first items rest =
 
 pub numbers_case : (v : Block) (d : ℕ) (first : ℤ) (items : Vec (Vec Block Global) Global)
     (slice : List (Vec Block Global))
-    (told : Option ArticleError) (rest : Blocks) → v ≡ views.Numbers first items → slice ≡ items.items →
-    told ≡ list_fault d (items_view slice) → fault_of_blocks d (block_view v rest)
-    ≡ option_or told (fault_of_blocks d rest)
-numbers_case v d first items slice told rest is e h =
+    (emitted : Option ArticleError) (rest : Blocks) → v ≡ views.Numbers first items → slice ≡ items.items →
+    emitted ≡ list_fault d (items_view slice) → fault_of_blocks d (block_view v rest)
+    ≡ option_or emitted (fault_of_blocks d rest)
+numbers_case v d first items slice emitted rest is e h =
     ap (λ v. fault_of_blocks d (block_view v rest)) is
     ∙ ap (fault_of_blocks d) (seen_numbers first items rest)
     ∙ ap (λ xs. fault_of_blocks d (numbers (held first) (items_view xs) rest)) (sym e)
@@ -133,11 +133,11 @@ some_item (v ∷ items) e = refl
 skip : (b : Bool) (e : ArticleError) (later : Option ArticleError) → b ≡ false → fault_where b e later ≡ later
 skip b e later h = ap (λ b. fault_where b e later) h
 
-pub list_goes : (items : List (Vec Block Global)) (d : ℕ) (deep told : Option ArticleError) →
+pub list_goes : (items : List (Vec Block Global)) (d : ℕ) (deep emitted : Option ArticleError) →
     (length items == 0) ≡ false →
-    deep ≡ fault_where (is_too_deep d) TooDeep None → deep ≡ None → told ≡ fault_of_items (suc d) (items_view items) →
-    told ≡ list_fault d (items_view items)
-list_goes items d deep told some e none h =
+    deep ≡ fault_where (is_too_deep d) TooDeep None → deep ≡ None → emitted ≡ fault_of_items (suc d) (items_view items) →
+    emitted ≡ list_fault d (items_view items)
+list_goes items d deep emitted some e none h =
     h ∙ sym (skip (not (has_item (items_view items))) EmptyList _ (ap not (some_item items some))
     ∙ shallow (is_too_deep d) (fault_of_items (suc d) (items_view items)) (sym e ∙ none))
   where
@@ -151,9 +151,9 @@ pub list_stops : (items : List (Vec Block Global)) (d : ℕ) (deep : Option Arti
     Some e ≡ list_fault d (items_view items)
 list_stops items d deep e some h is =
     sym (skip (not (has_item (items_view items))) EmptyList _ (ap not (some_item items some))
-    ∙ told (is_too_deep d) (fault_of_items (suc d) (items_view items)) (sym h ∙ is))
+    ∙ emitted (is_too_deep d) (fault_of_items (suc d) (items_view items)) (sym h ∙ is))
   where
-    told : (b : Bool) (later : Option ArticleError) → fault_where b TooDeep None ≡ Some e →
+    emitted : (b : Bool) (later : Option ArticleError) → fault_where b TooDeep None ≡ Some e →
         fault_where b TooDeep later ≡ Some e
-    told true later h = h
-    told false later h = cc
+    emitted true later h = h
+    emitted false later h = cc

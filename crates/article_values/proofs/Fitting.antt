@@ -25,18 +25,18 @@ fits_or (Some fault) second f g = f
 deep : (depth : ℕ) (later : Option ArticleError) → Fits later → Fits (fault_where (is_too_deep depth) TooDeep later)
 deep depth later h = fits_where (is_too_deep depth) TooDeep later (λ e. cc) h
 
-inlines_fit : (depth : ℕ) (in_link behind_text : Bool) (inlines : Inlines) →
-    Fits (fault_of_inlines depth in_link behind_text inlines)
-inlines_fit depth in_link behind_text no_inlines = λ e. cc
-inlines_fit depth in_link behind_text (words cs rest) =
+inlines_fit : (depth : ℕ) (in_link after_text : Bool) (inlines : Inlines) →
+    Fits (fault_of_inlines depth in_link after_text inlines)
+inlines_fit depth in_link after_text no_inlines = λ e. cc
+inlines_fit depth in_link after_text (words cs rest) =
     fits_where (not (is_filled cs)) EmptyText _ (λ e. cc)
-    (fits_where behind_text NeighbourTexts _ (λ e. cc)
+    (fits_where after_text NeighbourTexts _ (λ e. cc)
     (fits_where (has_forbidden cs) ForbiddenCharacter _ (λ e. cc)
     (deep depth _ (inlines_fit depth in_link true rest))))
-inlines_fit depth in_link behind_text (line_break rest) = deep depth _ (inlines_fit depth in_link false rest)
-inlines_fit depth in_link behind_text (span style contents rest) =
+inlines_fit depth in_link after_text (line_break rest) = deep depth _ (inlines_fit depth in_link false rest)
+inlines_fit depth in_link after_text (span style contents rest) =
     deep depth _ (fits_or _ _ (inlines_fit (suc depth) in_link false contents) (inlines_fit depth in_link false rest))
-inlines_fit depth in_link behind_text (link target contents rest) =
+inlines_fit depth in_link after_text (link target contents rest) =
     fits_where (has_forbidden target) ForbiddenCharacter _ (λ e. cc)
     (fits_where in_link LinkInLink _ (λ e. cc)
     (deep depth _

@@ -1,6 +1,6 @@
 -- A step of letting go leaves less to do.
-use Rattle.std.proofs.Common.{◌≡◌, ℕ, ℤ, suc, ◌+◌, ◌*◌, ◌<◌, ◌≤◌, ◌==◌, false, List, [], ◌∷◌, ◌++◌, map, length, Option}
-use Rattle.std.proofs.Common.{None, Some, MatchOption, Vec, Global, get_or, slice_set, refl, sym, ap, ◌∙◌, arith}
+use Rattle.std.proofs.Common.{◌≡◌, ◌+◌, ◌*◌, ◌<◌, ◌≤◌, ◌==◌, [], ◌∷◌, ◌++◌, ◌∙◌, Global, List, MatchOption, None}
+use Rattle.std.proofs.Common.{Option, Some, Vec, ap, arith, false, get_or, length, map, refl, slice_set, suc, sym, ℕ, ℤ}
 use Rattle.std.proofs.lemmas.Bool.{eqb-false}
 use Rattle.std.proofs.lemmas.Nat.{mul-le}
 use Rattle.std.proofs.Math.Nat.{suc-mul}
@@ -60,21 +60,21 @@ last_taken A B size n all left before m (Some x) h e cases =
     falls (size x) n (map size left) (map size before) (omega arith)
 
 -- what waited is put in the place of the first
-pub first_taken : {T : Type 0} (size : T → ℕ) (n : ℕ) (behind : T) (all before : List T) →
-    size behind + total (map size all) ≡ n + total (map size before) → 0 < length before → total (map size all) < n →
-    work (size (first_of behind all)) (map size (with_first behind all)) < work n (map size before)
-first_taken size n behind all [] e some h = absurd (omega arith)
-first_taken size n behind [] (b ∷ before) e some h =
-    stays (size behind) n [] (map size (b ∷ before)) e (omega arith)
-first_taken size n behind (x ∷ all) (b ∷ before) e some h =
-    stays (size x) n (size behind ∷ map size all) (map size (b ∷ before)) (omega arith) (omega arith)
+pub first_taken : {T : Type 0} (size : T → ℕ) (n : ℕ) (trailing : T) (all before : List T) →
+    size trailing + total (map size all) ≡ n + total (map size before) → 0 < length before → total (map size all) < n →
+    work (size (first_of trailing all)) (map size (with_first trailing all)) < work n (map size before)
+first_taken size n trailing all [] e some h = absurd (omega arith)
+first_taken size n trailing [] (b ∷ before) e some h =
+    stays (size trailing) n [] (map size (b ∷ before)) e (omega arith)
+first_taken size n trailing (x ∷ all) (b ∷ before) e some h =
+    stays (size x) n (size trailing ∷ map size all) (map size (b ∷ before)) (omega arith) (omega arith)
 
-pub first_taken_of_fewer : {T : Type 0} (size : T → ℕ) (n : ℕ) (behind : T) (all before : List T) →
-    size behind + total (map size all) < n + total (map size before) →
-    work (size (first_of behind all)) (map size (with_first behind all)) < work n (map size before)
-first_taken_of_fewer size n behind [] before h = falls (size behind) n [] (map size before) h
-first_taken_of_fewer size n behind (x ∷ all) before h =
-    falls (size x) n (size behind ∷ map size all) (map size before) (omega arith)
+pub first_taken_of_fewer : {T : Type 0} (size : T → ℕ) (n : ℕ) (trailing : T) (all before : List T) →
+    size trailing + total (map size all) < n + total (map size before) →
+    work (size (first_of trailing all)) (map size (with_first trailing all)) < work n (map size before)
+first_taken_of_fewer size n trailing [] before h = falls (size trailing) n [] (map size before) h
+first_taken_of_fewer size n trailing (x ∷ all) before h =
+    falls (size x) n (size trailing ∷ map size all) (map size before) (omega arith)
 
 -- ---- sizes of what waits in a value of its own
 pub size_of_bold : (contents : Vec Inline Global) →

@@ -1,15 +1,16 @@
 -- A turn of the check of inline contents.
-use Rattle.std.proofs.Common.{◌≡◌, ℕ, Bool, true, false, not, List, [], ◌∷◌, ◌+◌, ◌<◌, drop, get_or, length, Option}
-use Rattle.std.proofs.Common.{None, Some, refl, sym, ap, ◌∙◌, chars, add-one, drop-cons, suc}
-use Rattle.std.proofs.Common.{◌==◌, IsUtf8, encode_utf8_all}
+use Rattle.std.proofs.Common.{◌≡◌, [], ◌∷◌, ◌+◌, ◌<◌, ◌∙◌, ◌==◌, Bool, Global, IsUtf8, List, None, Option, Some, String}
+use Rattle.std.proofs.Common.{Vec, add-one, ap, chars, drop, drop-cons, encode_utf8_all, false, get_or, length, not}
+use Rattle.std.proofs.Common.{refl, string_bytes, suc, sym, true, ℕ}
 use Rattle.std.proofs.lemmas.Bool.{eqb-true}
 use Rattle.std.proofs.lemmas.List.{nil_from_length}
 use Rattle.std.proofs.lemmas.Str.{chars-nil, encodes-chars}
 use Rattle.std.specs.Option.{option_or}
-use Rattle.article_values.specs.Articles.{Inlines, Style, link, no_inlines, span, words}
+use Rattle.article_values.specs.Articles.{Inlines, Style, bold, code, emphasis, italic, link, no_inlines, span, strong}
+use Rattle.article_values.specs.Articles.{words}
 use Rattle.article_values.specs.Faults.{fault_of_inlines, has_forbidden, fault_where, is_filled, is_too_deep}
 use Rattle.article_values.specs.Outcomes.{begins_with_text}
-use Rattle.article_values.specs.Views.{inline_view, inlines_view}
+use Rattle.article_values.specs.Views.{inline_step, inline_view, inlines_view}
 use Rattle.article_values.specs.declared.error.ArticleError.{ArticleError}
 use Rattle.article_values.specs.declared.error.ArticleError.TheVariants.{EmptyText, ForbiddenCharacter, NeighbourTexts}
 use Rattle.article_values.specs.declared.error.ArticleError.TheVariants.{TooDeep}
@@ -19,35 +20,32 @@ use Rattle.article_values.specs.declared.values.Inline.TheOpen.{Inline-F}
 use Rattle.article_values.specs.declared.values.Inline.TheVariants.{rolls-Bold, rolls-Code, rolls-Emphasis}
 use Rattle.article_values.specs.declared.values.Inline.TheVariants.{rolls-Italic, rolls-Link, rolls-Strong}
 use Rattle.article_values.specs.declared.values.Inline.TheViews as views
-use Rattle.article_values.specs.Views.{inline_step}
-use Rattle.article_values.specs.Articles.{bold, code, emphasis, italic, strong}
-use Rattle.std.proofs.Common.{Vec, Global, String, string_bytes}
 
 pub span_case : (v : Inline) (d : ℕ) (l b : Bool) (contents slice : List Inline) (style : Style)
-    (told : Option ArticleError)
+    (emitted : Option ArticleError)
     (rest : Inlines) → ((r : Inlines) → inline_view v r ≡ span style (inlines_view contents) r) → slice ≡ contents →
     ((b : Bool) (style : Style) (rest : Inlines) → fault_of_inlines d l b (span style (inlines_view slice) rest)
-    ≡ option_or told (fault_of_inlines d l false rest)) →
+    ≡ option_or emitted (fault_of_inlines d l false rest)) →
     fault_of_inlines d l b (inline_view v rest)
-    ≡ option_or told (fault_of_inlines d l (begins_with_text (inline_view v no_inlines)) rest)
-span_case v d l b contents slice style told rest seen e h =
+    ≡ option_or emitted (fault_of_inlines d l (begins_with_text (inline_view v no_inlines)) rest)
+span_case v d l b contents slice style emitted rest seen e h =
     ap (fault_of_inlines d l b) (seen rest)
     ∙ ap (λ ks. fault_of_inlines d l b (span style (inlines_view ks) rest)) (sym e)
     ∙ h b style rest
-    ∙ ap (λ t. option_or told (fault_of_inlines d l t rest)) (sym (ap begins_with_text (seen no_inlines)))
+    ∙ ap (λ t. option_or emitted (fault_of_inlines d l t rest)) (sym (ap begins_with_text (seen no_inlines)))
 
 pub link_case : (v : Inline) (d : ℕ) (l b : Bool) (target text : List ℕ) (contents slice : List Inline)
-    (told : Option ArticleError) (rest : Inlines) →
+    (emitted : Option ArticleError) (rest : Inlines) →
     ((r : Inlines) → inline_view v r ≡ link target (inlines_view contents) r) → slice ≡ contents → text ≡ target →
     ((b : Bool) (rest : Inlines) → fault_of_inlines d l b (link text (inlines_view slice) rest)
-    ≡ option_or told (fault_of_inlines d l false rest)) →
+    ≡ option_or emitted (fault_of_inlines d l false rest)) →
     fault_of_inlines d l b (inline_view v rest)
-    ≡ option_or told (fault_of_inlines d l (begins_with_text (inline_view v no_inlines)) rest)
-link_case v d l b target text contents slice told rest seen e f h =
+    ≡ option_or emitted (fault_of_inlines d l (begins_with_text (inline_view v no_inlines)) rest)
+link_case v d l b target text contents slice emitted rest seen e f h =
     ap (fault_of_inlines d l b) (seen rest)
     ∙ ap (λ ks. fault_of_inlines d l b (link target (inlines_view ks) rest)) (sym e)
     ∙ ap (λ t. fault_of_inlines d l b (link t (inlines_view slice) rest)) (sym f)
-    ∙ h b rest ∙ ap (λ t. option_or told (fault_of_inlines d l t rest)) (sym (ap begins_with_text (seen no_inlines)))
+    ∙ h b rest ∙ ap (λ t. option_or emitted (fault_of_inlines d l t rest)) (sym (ap begins_with_text (seen no_inlines)))
 
 -- ---- a text
 
@@ -75,17 +73,17 @@ turn all i x h is = ap inlines_view (first all i x h is) where
       drop i all ≡ x ∷ drop (i + 1) all
   first all i x h is = rw (add-one, drop-cons all i x h) (ap (λ y. y ∷ drop (suc i) all) (sym is))
 
-module _ (d : ℕ) (l : Bool) (all : List Inline) (i : ℕ) (b : Bool) (x : Inline) (told : Option ArticleError)
+module _ (d : ℕ) (l : Bool) (all : List Inline) (i : ℕ) (b : Bool) (x : Inline) (emitted : Option ArticleError)
     (whole : fault_of_inlines d l false (inlines_view all) ≡ fault_of_inlines d l b (inlines_view (drop i all)))
     (h : i < length all) (is : x ≡ get_or all i x)
     (one : (rest : Inlines) → fault_of_inlines d l b (inline_view x rest)
-    ≡ option_or told (fault_of_inlines d l (begins_with_text (inline_view x no_inlines)) rest)) where
+    ≡ option_or emitted (fault_of_inlines d l (begins_with_text (inline_view x no_inlines)) rest)) where
   step : fault_of_inlines d l false (inlines_view all)
-      ≡ option_or told
+      ≡ option_or emitted
       (fault_of_inlines d l (begins_with_text (inline_view x no_inlines)) (inlines_view (drop (i + 1) all)))
   step = whole ∙ ap (fault_of_inlines d l b) (turn all i x h is) ∙ one (inlines_view (drop (i + 1) all))
 
-  pub goes_on : (text : Bool) → told ≡ None → text ≡ begins_with_text (inline_view x no_inlines) →
+  pub goes_on : (text : Bool) → emitted ≡ None → text ≡ begins_with_text (inline_view x no_inlines) →
       fault_of_inlines d l false (inlines_view all) ≡ fault_of_inlines d l text (inlines_view (drop (i + 1) all))
   goes_on text none t =
       step
@@ -93,7 +91,7 @@ module _ (d : ℕ) (l : Bool) (all : List Inline) (i : ℕ) (b : Bool) (x : Inli
       (fault_of_inlines d l (begins_with_text (inline_view x no_inlines)) (inlines_view (drop (i + 1) all)))) none
       ∙ ap (λ t. fault_of_inlines d l t (inlines_view (drop (i + 1) all))) (sym t)
 
-  pub stops : (e : ArticleError) → told ≡ Some e → Some e ≡ fault_of_inlines d l false (inlines_view all)
+  pub stops : (e : ArticleError) → emitted ≡ Some e → Some e ≡ fault_of_inlines d l false (inlines_view all)
   stops e some = sym (step
       ∙ ap (λ o. option_or o
       (fault_of_inlines d l (begins_with_text (inline_view x no_inlines)) (inlines_view (drop (i + 1) all)))) some)
@@ -132,11 +130,11 @@ module _ (contents : Vec Inline Global) (r : Inlines) where
       ∙ ap (λ f. f r) (fold-roll-Inline (Inlines → Inlines) inline_step (Inline-F.Link target contents))
 
 -- ---- the check of a text
-pub text_case : (cs : List ℕ) (d : ℕ) (l b : Bool) (rest : Inlines) (told : Option ArticleError) →
+pub text_case : (cs : List ℕ) (d : ℕ) (l b : Bool) (rest : Inlines) (emitted : Option ArticleError) →
     not (is_filled cs) ≡ false → b ≡ false → has_forbidden cs ≡ false →
-    told ≡ fault_where (is_too_deep d) TooDeep None →
-    fault_of_inlines d l b (words cs rest) ≡ option_or told (fault_of_inlines d l true rest)
-text_case cs d l b rest told e f g t =
+    emitted ≡ fault_where (is_too_deep d) TooDeep None →
+    fault_of_inlines d l b (words cs rest) ≡ option_or emitted (fault_of_inlines d l true rest)
+text_case cs d l b rest emitted e f g t =
     let last : Option ArticleError = fault_of_inlines d l true rest in
     let deep : Option ArticleError = fault_where (is_too_deep d) TooDeep last in
     let characters : Option ArticleError = fault_where (has_forbidden cs) ForbiddenCharacter deep in
@@ -158,10 +156,10 @@ pub empty_case : (bs : List ℕ) (later : Option ArticleError) → (length bs ==
     fault_where (not (is_filled (chars bs))) EmptyText later ≡ Some EmptyText
 empty_case bs later e = if_true (not (is_filled (chars bs))) EmptyText later (empty_text bs e)
 
-pub behind_case : (bs : List ℕ) (b : Bool) (later : Option ArticleError) → IsUtf8 bs → (length bs == 0) ≡ false →
+pub after_case : (bs : List ℕ) (b : Bool) (later : Option ArticleError) → IsUtf8 bs → (length bs == 0) ≡ false →
     b ≡ true →
     fault_where (not (is_filled (chars bs))) EmptyText (fault_where b NeighbourTexts later) ≡ Some NeighbourTexts
-behind_case bs b later u e f = if_false (not (is_filled (chars bs))) EmptyText (fault_where b NeighbourTexts later)
+after_case bs b later u e f = if_false (not (is_filled (chars bs))) EmptyText (fault_where b NeighbourTexts later)
     (some_text bs u e)
     ∙ if_true b NeighbourTexts later f
 

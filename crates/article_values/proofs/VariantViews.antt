@@ -1,6 +1,6 @@
 -- What contracts see of each variant of an inline and of a block.
-use Rattle.std.proofs.Common.{◌≡◌, ℕ, ℤ, List, [], ◌∷◌, map, refl, sym, ap, ◌∙◌, chars, string_bytes, Vec, String}
-use Rattle.std.proofs.Common.{Global}
+use Rattle.std.proofs.Common.{◌≡◌, [], ◌∷◌, ◌∙◌, Global, List, String, Vec, ap, chars, map, refl, string_bytes, sym, ℕ}
+use Rattle.std.proofs.Common.{ℤ}
 use Rattle.article_values.specs.Articles.{Blocks, Inlines, bold, bullets, code, division, emphasis, heading, italic}
 use Rattle.article_values.specs.Articles.{line_break, link, no_items, numbers, paragraph, quote, span, strong, words}
 use Rattle.article_values.specs.Views.{block_step, block_view, blocks_view, held, in_turn, inline_step, inline_view}

@@ -1,7 +1,7 @@
 -- How much stands in blocks: a measure of what goes through an article as deep as it is nested.
-use Rattle.std.proofs.Common.{◌≡◌, ℕ, ℤ, zero, suc, ◌+◌, ◌<◌, ◌≤◌, List, [], ◌∷◌, map, length, get_or, refl, sym, ap}
-use Rattle.std.proofs.Common.{◌∙◌, Vec, String, Global, arith}
-use Rattle.article_values.specs.Sizes.{total}
+use Rattle.std.proofs.Common.{◌≡◌, ◌+◌, ◌<◌, ◌≤◌, [], ◌∷◌, ◌∙◌, Global, List, String, Vec, ap, arith, get_or, length}
+use Rattle.std.proofs.Common.{map, refl, suc, sym, zero, ℕ, ℤ}
+use Rattle.article_values.specs.Sizes.{inline_size, inline_size_step, inlines_size, total}
 use Rattle.article_values.specs.declared.values.Block.{Block, fold-Block}
 use Rattle.article_values.specs.declared.values.Block.TheFolds.{fold-roll-Block}
 use Rattle.article_values.specs.declared.values.Block.TheOpen.{Block-F}
@@ -16,7 +16,6 @@ use Rattle.article_values.specs.declared.values.Inline.TheVariants.{rolls-Bold, 
 use Rattle.article_values.specs.declared.values.Inline.TheVariants.{rolls-Italic, rolls-Link, rolls-Strong}
 use Rattle.article_values.specs.declared.values.Inline.TheVariants as variants
 use Rattle.article_values.specs.declared.values.Inline.TheViews as views
-use Rattle.article_values.specs.Sizes.{inline_size, inline_size_step, inlines_size}
 
 -- of blocks, with the inlines in them
 abbrev pub weight_step : Block-F ℕ → ℕ

@@ -1,7 +1,7 @@
 -- The first fault of a value, in the order in which it is written: a value before what it holds, and this before what
 -- follows it.
-use Rattle.std.specs.Prelude.{ℕ, suc, nat_le, nat_lt, ◌==◌, ◌||◌, ◌&&◌, not, Bool, true, false, List, [], ◌∷◌, Option}
-use Rattle.std.specs.Prelude.{None, Some}
+use Rattle.std.specs.Prelude.{◌==◌, ◌||◌, ◌&&◌, [], ◌∷◌, Bool, List, None, Option, Some, false, nat_le, nat_lt, not}
+use Rattle.std.specs.Prelude.{suc, true, ℕ}
 use Rattle.std.specs.List.{list_any}
 use Rattle.std.specs.Option.{option_or}
 use Rattle.article_values.specs.Articles.{Blocks, Inlines, Items, bullets, division, heading, item, line_break, link}
@@ -32,22 +32,22 @@ has_forbidden cs = list_any is_forbidden cs
 abbrev pub is_too_deep : (depth : ℕ) → Bool
 is_too_deep depth = nat_lt 256 depth
 
-abbrev pub fault_of_inlines : (depth : ℕ) (in_link behind_text : Bool) → Inlines → Option ArticleError
-fault_of_inlines depth in_link behind_text no_inlines = None
-fault_of_inlines depth in_link behind_text (words cs rest) =
+abbrev pub fault_of_inlines : (depth : ℕ) (in_link after_text : Bool) → Inlines → Option ArticleError
+fault_of_inlines depth in_link after_text no_inlines = None
+fault_of_inlines depth in_link after_text (words cs rest) =
     fault_where (not (is_filled cs)) EmptyText
-    (fault_where behind_text NeighbourTexts
+    (fault_where after_text NeighbourTexts
     (fault_where (has_forbidden cs) ForbiddenCharacter
     (fault_where (is_too_deep depth) TooDeep
     (fault_of_inlines depth in_link true rest))))
-fault_of_inlines depth in_link behind_text (line_break rest) =
+fault_of_inlines depth in_link after_text (line_break rest) =
     fault_where (is_too_deep depth) TooDeep
     (fault_of_inlines depth in_link false rest)
-fault_of_inlines depth in_link behind_text (span style contents rest) =
+fault_of_inlines depth in_link after_text (span style contents rest) =
     fault_where (is_too_deep depth) TooDeep
     (option_or (fault_of_inlines (suc depth) in_link false contents)
     (fault_of_inlines depth in_link false rest))
-fault_of_inlines depth in_link behind_text (link target contents rest) =
+fault_of_inlines depth in_link after_text (link target contents rest) =
     fault_where (has_forbidden target) ForbiddenCharacter
     (fault_where in_link LinkInLink
     (fault_where (is_too_deep depth) TooDeep

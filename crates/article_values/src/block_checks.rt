@@ -2,8 +2,8 @@
 ghost use Rattle.std.specs.Prelude.{◌≡◌, ◌≤◌, ◌+◌, not, suc, None};
 ghost use Rattle.std.specs.Option.{option_or};
 ghost use Rattle.article_values.specs.Articles.{Blocks, paragraph};
-ghost use Rattle.article_values.specs.Faults.{fault_of_blocks, fault_of_items, has_item, fault_where};
-ghost use Rattle.article_values.specs.Faults.{is_level, is_too_deep};
+ghost use Rattle.article_values.specs.Faults.{fault_of_blocks, fault_of_items, fault_where, has_item, is_level};
+ghost use Rattle.article_values.specs.Faults.{is_too_deep};
 ghost use Rattle.article_values.specs.Outcomes.{fault_met};
 ghost use Rattle.article_values.specs.Views.{block_view, blocks_view, inlines_view, items_view};
 

@@ -4,8 +4,7 @@
 ghost use Rattle.std.specs.Prelude.{◌≡◌, ◌≤◌, ◌<◌, ◌+◌, Bool, false, true, chars, None};
 ghost use Rattle.std.specs.Option.{option_or};
 ghost use Rattle.article_values.specs.Articles.{Inlines, Style, link, no_inlines, span, words};
-ghost use Rattle.article_values.specs.Faults.{fault_of_inlines, has_forbidden};
-ghost use Rattle.article_values.specs.Faults.{fault_where, is_forbidden, is_too_deep};
+ghost use Rattle.article_values.specs.Faults.{fault_of_inlines, fault_where, has_forbidden, is_forbidden, is_too_deep};
 ghost use Rattle.article_values.specs.Outcomes.{fault_met, begins_with_text};
 ghost use Rattle.article_values.specs.Views.{inline_view, inlines_view};
 
@@ -43,15 +42,15 @@ fn is_text(inline: &Inline) -> bool
     matches!(inline, Inline::Text(_))
 }
 
-fn check_text(text: &str, depth: usize, behind_text: bool) -> Result<(), ArticleError>
+fn check_text(text: &str, depth: usize, after_text: bool) -> Result<(), ArticleError>
     ensures { (in_link : Bool) (rest : Inlines) →
-        fault_of_inlines depth in_link behind_text (words (chars text.now) rest)
+        fault_of_inlines depth in_link after_text (words (chars text.now) rest)
         ≡ option_or (fault_met result) (fault_of_inlines depth in_link true rest) }
 {
     if text.is_empty() {
         return Err(ArticleError::EmptyText);
     }
-    if behind_text {
+    if after_text {
         return Err(ArticleError::NeighbourTexts);
     }
     if has_forbidden(text) {
@@ -63,8 +62,8 @@ fn check_text(text: &str, depth: usize, behind_text: bool) -> Result<(), Article
 #[cycle(inlines)]
 fn check_span(contents: &[Inline], depth: usize, in_link: bool) -> Result<(), ArticleError>
     requires { depth ≤ 257 }
-    ensures { (behind_text : Bool) (style : Style) (rest : Inlines) →
-        fault_of_inlines depth in_link behind_text (span style (inlines_view contents.now) rest)
+    ensures { (after_text : Bool) (style : Style) (rest : Inlines) →
+        fault_of_inlines depth in_link after_text (span style (inlines_view contents.now) rest)
         ≡ option_or (fault_met result) (fault_of_inlines depth in_link false rest) }
 {
     check_depth(depth)?;
@@ -79,7 +78,7 @@ fn check_link(
     in_link: bool,
 ) -> Result<(), ArticleError>
     requires { depth ≤ 257 }
-    ensures { (behind_text : Bool) (rest : Inlines) → fault_of_inlines depth in_link behind_text
+    ensures { (after_text : Bool) (rest : Inlines) → fault_of_inlines depth in_link after_text
         (link (chars target.now) (inlines_view contents.now) rest)
         ≡ option_or (fault_met result) (fault_of_inlines depth in_link false rest) }
 {
@@ -98,15 +97,15 @@ fn check_inline(
     inline: &Inline,
     depth: usize,
     in_link: bool,
-    behind_text: bool,
+    after_text: bool,
 ) -> Result<(), ArticleError>
     requires { depth ≤ 257 }
-    ensures { (rest : Inlines) → fault_of_inlines depth in_link behind_text (inline_view inline.now rest)
+    ensures { (rest : Inlines) → fault_of_inlines depth in_link after_text (inline_view inline.now rest)
         ≡ option_or (fault_met result) (fault_of_inlines depth in_link
         (begins_with_text (inline_view inline.now no_inlines)) rest) }
 {
     match inline {
-        Inline::Text(text) => check_text(text.as_str(), depth, behind_text),
+        Inline::Text(text) => check_text(text.as_str(), depth, after_text),
         Inline::Break => check_depth(depth),
         Inline::Bold(contents) => check_span(contents.as_slice(), depth, in_link),
         Inline::Italic(contents) => check_span(contents.as_slice(), depth, in_link),
@@ -131,10 +130,10 @@ pub(crate) fn check_inlines(
     requires { depth ≤ 257 }
     ensures { fault_met result ≡ fault_of_inlines depth in_link false (inlines_view inlines.now) }
 {
-    let mut behind_text = false;
+    let mut after_text = false;
     'inlines: for inline in inlines {
-        check_inline(inline, depth, in_link, behind_text)?;
-        behind_text = is_text(inline);
+        check_inline(inline, depth, in_link, after_text)?;
+        after_text = is_text(inline);
     }
     Ok(())
 }

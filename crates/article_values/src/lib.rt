@@ -13,7 +13,7 @@
 //! - `Article::title`, `Article::blocks`: the title's characters; the blocks, which have no fault
 //!
 //! `Block` and `Inline` are let go by loops that take no memory and end. Not proved: that a drop takes time in step
-//! with the value. Tested (`page_rows`): 51 values with one fault, with several and with none, exactly 256 deep and
+//! with the value. Tested (`test_pages`): 51 values with one fault, with several and with none, exactly 256 deep and
 //! 257, and three a million deep. The 300 articles of an independent model have the faults that the definitions,
 //! read once more in Python, give them. An empty quote, as an empty division, is no fault, and quotes and strong
 //! text count for the depth.

@@ -1,5 +1,8 @@
+pub mod Accepted
+pub mod BlocksRead
 pub mod Documents
 pub mod InnerSizes
 pub mod Naming
-pub mod Telling
+pub mod NumbersFitting
+pub mod Emitting
 pub mod Texts

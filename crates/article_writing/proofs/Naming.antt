@@ -5,12 +5,12 @@ use Rattle.std.specs.Char.{IsScalar}
 use Rattle.std.proofs.lemmas.List.Elements.{All-cons, All-nil}
 use Rattle.std.proofs.lemmas.Str.{chars-IsAscii, chars-append}
 use Rattle.std.proofs.lemmas.Str.Ascii.{IsAscii-from_all}
-use Rattle.reference_tables.proofs.TextFronts.{chars-encode}
+use Rattle.lex_base.proofs.TextFronts.{chars-encode}
 use Rattle.html_lexemes.specs.declared.names.Attribute.{Attribute}
 use Rattle.html_lexemes.specs.declared.names.Namespace.TheVariants.{Other}
 use Rattle.html_lexemes.specs.declared.names.QualName.{QualName}
-use Rattle.rebuilt_documents.specs.Contents.{in_no_namespace}
-use Rattle.written_articles.specs.Contents.{heading_name}
+use Rattle.document_laws.specs.Contents.{in_no_namespace}
+use Rattle.article_writing.specs.Contents.{heading_name}
 
 abbrev attribute_of : QualName → List ℕ → Attribute
 attribute_of q text = record { name = q; value = text }

@@ -1,6 +1,6 @@
 -- Texts, with and without characters.
-use Rattle.std.proofs.Common.{◌≡◌, ℕ, List, [], ◌∷◌, length, ℤ, ◌==◌, true, false, refl, sym, ap, ◌∙◌, chars}
-use Rattle.std.proofs.Common.{FitsSigned, IsUtf8, encode_utf8_all, arith}
+use Rattle.std.proofs.Common.{◌≡◌, [], ◌∷◌, ◌==◌, ◌∙◌, FitsSigned, IsUtf8, List, ap, arith, chars, encode_utf8_all}
+use Rattle.std.proofs.Common.{false, length, refl, sym, true, ℕ, ℤ}
 use Rattle.std.specs.Fmt.{signed_decimal}
 use Rattle.std.specs.Int.{cast_signed, cast_unsigned, w64}
 use Rattle.std.proofs.lemmas.Fmt.{IsAscii-signed}
@@ -8,10 +8,10 @@ use Rattle.std.proofs.lemmas.Int.{to_z-of_z, ints}
 use Rattle.std.proofs.lemmas.Bool.{eqb-true}
 use Rattle.std.proofs.lemmas.List.{nil_from_length}
 use Rattle.std.proofs.lemmas.Str.{chars-IsAscii, chars-nil, encodes-chars}
-use Rattle.html_serializer.specs.Calls.{Call, text_run}
+use Rattle.tree_serializer.specs.Calls.{Call, text_run}
 use Rattle.article_values.specs.Articles.{Inlines, words}
-use Rattle.written_articles.specs.Contents.{content_of_inlines}
-use Rattle.written_articles.specs.Tellings.{calls_and, text_content}
+use Rattle.article_writing.specs.Contents.{content_of_inlines}
+use Rattle.written_document_laws.specs.Emissions.{calls_and, text_content}
 
 pub empty_calls : (bs : List ℕ) (more : List Call) → (length bs == 0) ≡ true →
     calls_and (text_content (chars bs)) more ≡ more

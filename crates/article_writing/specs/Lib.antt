@@ -1,1 +1,2 @@
-pub mod Tells
+pub mod Contents
+pub mod Emits

@@ -1,50 +1,50 @@
 //! Inlines, emitted to a serializer.
 ghost use Rattle.std.specs.Prelude.{List, chars};
-ghost use Rattle.html_serializer.specs.Calls.{Call};
+ghost use Rattle.tree_serializer.specs.Calls.{Call};
 ghost use Rattle.article_values.specs.Articles.{Inlines as SeenInlines, link, no_inlines};
 ghost use Rattle.article_values.specs.Views.{inline_view, inlines_view};
-ghost use Rattle.written_articles.specs.Contents.{content_of_inlines};
-ghost use Rattle.written_articles.specs.Tellings.{calls_and};
-ghost use Rattle.article_writing.specs.Tells.{Tells};
+ghost use Rattle.article_writing.specs.Contents.{content_of_inlines};
+ghost use Rattle.written_document_laws.specs.Emissions.{calls_and};
+ghost use Rattle.article_writing.specs.Emits.{Emits};
 
-use crate::elements::{tell_element, tell_text};
+use crate::elements::{emit_element, emit_text};
 use crate::inner::Inner;
 use crate::names::attribute;
 use article_values::Inline;
-use html_serializer::{SerializeFault, Serializer};
 use std::alloc::Global;
+use tree_serializer::{SerializeFault, Serializer};
 
-/// Tells inlines, one after another.
-#[cycle(telling)]
-pub(crate) fn tell_inlines<S: Serializer>(
+/// Emits inlines, one after another.
+#[cycle(emitting)]
+pub(crate) fn emit_inlines<S: Serializer>(
     alloc: Global,
     serializer: &mut S,
     inlines: &[Inline],
 ) -> Result<(), SerializeFault>
-    ensures { Tells {X = List Call} S.means (S.seen serializer.old) (S.seen serializer.new) result
+    ensures { Emits {X = List Call} S.means (S.seen serializer.old) (S.seen serializer.new) result
         (λ more. calls_and (content_of_inlines (inlines_view inlines.now)) more) (λ more. more) }
 {
     'inlines: for inline in inlines {
-        tell_inline(alloc, serializer, inline)?;
+        emit_inline(alloc, serializer, inline)?;
     }
     Ok(())
 }
 
-#[cycle(telling)]
-fn tell_inline<S: Serializer>(
+#[cycle(emitting)]
+fn emit_inline<S: Serializer>(
     alloc: Global,
     serializer: &mut S,
     inline: &Inline,
 ) -> Result<(), SerializeFault>
-    ensures { (rest : SeenInlines) → Tells {X = List Call} S.means (S.seen serializer.old) (S.seen serializer.new)
+    ensures { (rest : SeenInlines) → Emits {X = List Call} S.means (S.seen serializer.old) (S.seen serializer.new)
         result (λ more. calls_and (content_of_inlines (inline_view inline.now rest)) more)
         (λ more. calls_and (content_of_inlines rest) more) }
 {
     match inline {
-        Inline::Text(text) => tell_text(serializer, text.as_str()),
-        Inline::Break => tell_element(alloc, serializer, "br", &[], Inner::Text("")),
+        Inline::Text(text) => emit_text(serializer, text.as_str()),
+        Inline::Break => emit_element(alloc, serializer, "br", &[], Inner::Text("")),
         Inline::Bold(contents) => {
-            tell_element(
+            emit_element(
                 alloc,
                 serializer,
                 "b",
@@ -53,7 +53,7 @@ fn tell_inline<S: Serializer>(
             )
         }
         Inline::Italic(contents) => {
-            tell_element(
+            emit_element(
                 alloc,
                 serializer,
                 "i",
@@ -62,7 +62,7 @@ fn tell_inline<S: Serializer>(
             )
         }
         Inline::Emphasis(contents) => {
-            tell_element(
+            emit_element(
                 alloc,
                 serializer,
                 "em",
@@ -71,7 +71,7 @@ fn tell_inline<S: Serializer>(
             )
         }
         Inline::Code(contents) => {
-            tell_element(
+            emit_element(
                 alloc,
                 serializer,
                 "code",
@@ -80,7 +80,7 @@ fn tell_inline<S: Serializer>(
             )
         }
         Inline::Strong(contents) => {
-            tell_element(
+            emit_element(
                 alloc,
                 serializer,
                 "strong",
@@ -89,22 +89,22 @@ fn tell_inline<S: Serializer>(
             )
         }
         Inline::Link(target, contents) => {
-            tell_link(alloc, serializer, target.as_str(), contents.as_slice())
+            emit_link(alloc, serializer, target.as_str(), contents.as_slice())
         }
     }
 }
 
-#[cycle(telling)]
-fn tell_link<S: Serializer>(
+#[cycle(emitting)]
+fn emit_link<S: Serializer>(
     alloc: Global,
     serializer: &mut S,
     target: &str,
     contents: &[Inline],
 ) -> Result<(), SerializeFault>
-    ensures { Tells {X = List Call} S.means (S.seen serializer.old) (S.seen serializer.new) result
+    ensures { Emits {X = List Call} S.means (S.seen serializer.old) (S.seen serializer.new) result
         (λ more. calls_and (content_of_inlines (link (chars target.now) (inlines_view contents.now) no_inlines)) more)
         (λ more. more) }
 {
     let href = attribute(alloc, "href", target)?;
-    tell_element(alloc, serializer, "a", &[href], Inner::Inlines(contents))
+    emit_element(alloc, serializer, "a", &[href], Inner::Inlines(contents))
 }

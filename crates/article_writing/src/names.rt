@@ -1,8 +1,8 @@
 //! Names of elements and attributes.
 ghost use Rattle.std.specs.Prelude.{◌≡◌, ◌+◌, chars, string_bytes, IfOk};
-ghost use Rattle.rebuilt_documents.specs.Contents.{in_no_namespace};
-ghost use Rattle.rebuilt_documents.specs.Planted.{of_html};
-ghost use Rattle.written_articles.specs.Contents.{heading_name};
+ghost use Rattle.document_laws.specs.Contents.{in_no_namespace};
+ghost use Rattle.document_laws.specs.Planted.{of_html};
+ghost use Rattle.article_writing.specs.Contents.{heading_name};
 
 use html_lexemes::{Attribute, LocalName, Namespace, QualName, Text};
 use std::alloc::{AllocError, Global};

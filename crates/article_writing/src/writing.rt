@@ -1,21 +1,20 @@
 //! The written form of an article.
 ghost use Rattle.std.specs.Prelude.{◌≡◌, ◌≢◌, ℕ, List, None, Option, true, Err, OnErr, OnOk};
-ghost use Rattle.html_serializer.specs.Writing.{Grows, GrowsPart};
+ghost use Rattle.tree_serializer.specs.Writing.{Grows, GrowsPart};
 ghost use Rattle.article_values.specs.Articles.{Blocks as SeenBlocks};
 ghost use Rattle.article_values.specs.Faults.{first_fault};
-ghost use Rattle.written_articles.specs.Contents.{NumbersFit, article_text};
+ghost use Rattle.article_writing.specs.Contents.{NumbersFit, article_text};
 
-use crate::elements::tell_element;
+use crate::elements::emit_element;
 use crate::inner::Inner;
+use crate::laws::{an_article_is_written_back, first_numbers_fit, no_text_is_two_articles};
 use article_values::Article;
 use html_lexemes::ByteWriter;
-use html_serializer::{
+use std::alloc::Global;
+use tree_serializer::{
     Serialize, SerializeFault, SerializeOpts, Serializer, TraversalScope, serialize,
 };
-use std::alloc::Global;
-use written_articles::{
-    a_document_is_told, an_article_is_written_back, first_numbers_fit, no_text_is_two_articles,
-};
+use written_document_laws::a_document_is_emitted;
 
 /// An article, which can be emitted to a serializer as the page that is written of it (WHATWG HTML, 13.3).
 #[derive(Drop)]
@@ -26,7 +25,7 @@ pub struct SerializableArticle<'a> {
 
 impl Serialize for SerializableArticle<'_> {
     ghost use Rattle.article_values.specs.Views.{blocks_view};
-    ghost use Rattle.written_articles.specs.Contents.{article_tree};
+    ghost use Rattle.article_writing.specs.Contents.{article_tree};
 
     ghost forest = { λ a. article_tree a.article.now.title (blocks_view a.article.now.blocks) };
 
@@ -38,10 +37,10 @@ impl Serialize for SerializableArticle<'_> {
         serializer: &mut S,
         _scope: &TraversalScope,
     ) -> Result<(), SerializeFault> {
-        a_document_is_told();
+        a_document_is_emitted();
         serializer.write_doctype("html")?;
         let root = Inner::Root(self.article.title(), self.article.blocks());
-        tell_element(alloc, serializer, "html", &[], root)
+        emit_element(alloc, serializer, "html", &[], root)
     }
 }
 

@@ -1,13 +1,13 @@
 -- How many lines have content.
-use Rattle.std.specs.Prelude.{◌≡◌, ℕ, ◌+◌, ◌-◌, nat_lt, Bool, true, false, not, ◌||◌, ◌==◌, List, [], ◌∷◌, ◌++◌, map}
-use Rattle.std.specs.Prelude.{length, chars, IsUtf8, if◌then◌else◌, refl}
+use Rattle.std.specs.Prelude.{◌≡◌, ◌+◌, ◌-◌, ◌||◌, ◌==◌, [], ◌∷◌, ◌++◌, if◌then◌else◌, Bool, IsUtf8, List, chars, false}
+use Rattle.std.specs.Prelude.{length, map, nat_lt, not, refl, true, ℕ}
 use Rattle.std.proofs.Common.{sym, ap, ◌∙◌, arith}
 use Rattle.std.proofs.lemmas.Bool.Decides.{nat_tests}
 use Rattle.text_pieces.specs.Sources.{is_filled}
 use Rattle.text_borders.specs.Across.{CellLine}
-use Rattle.text_wrapping.proofs.WordLemmas.{empty_text, some_text}
-use Rattle.text_cells.specs.Cells.{laid_line_of, laid_text_of, text_count, content_count, texts_of, part_lines}
-use Rattle.text_cells.specs.Cells.{parts_lines, parts_content, texts_content, block_lines_of, block_content}
+use Rattle.text_normal.proofs.WordLemmas.{empty_text, some_text}
+use Rattle.text_cells.specs.Cells.{block_content, block_lines_of, content_count, laid_line_of, laid_text_of, part_lines}
+use Rattle.text_cells.specs.Cells.{parts_content, parts_lines, text_count, texts_content, texts_of}
 use Rattle.text_cells.specs.declared.laid_line.LaidLine.{LaidLine}
 use Rattle.text_cells.specs.declared.laid_line.LaidText.{LaidText}
 use Rattle.text_cells.specs.declared.part.Part.{Part}

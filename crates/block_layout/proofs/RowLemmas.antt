@@ -6,8 +6,8 @@ use Rattle.text_borders.specs.Lines.{BlockLine, text, border}
 use Rattle.text_borders.specs.Across.{CellLine, Cell, Hanging, Row, across}
 use Rattle.block_layout.specs.declared.measure.Measure.{Measure}
 use Rattle.block_layout.specs.Laid.{Laid, without_hanging}
-use Rattle.block_layout.specs.LaidRows.{border_line, last_border, before_last, without_last_border, put_back, with_row}
-use Rattle.block_layout.specs.LaidRows.{row_laid}
+use Rattle.block_layout.specs.LaidRows.{before_last, border_line, last_border, put_back, row_laid, with_row}
+use Rattle.block_layout.specs.LaidRows.{without_last_border}
 
 last_of : {S : Type 0} (above : Option (Border S)) (front : List (CellLine S)) (l : CellLine S)
     → fold (λ _ l. border_line l.line) above (front ++ l ∷ []) ≡ border_line l.line

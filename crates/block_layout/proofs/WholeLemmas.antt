@@ -1,12 +1,12 @@
 -- Lines of another block that are added after no prefix, where no marker waits and lines are not filled.
-use Rattle.std.specs.Prelude.{◌≡◌, ℕ, Bool, true, false, ◌||◌, List, [], ◌∷◌, ◌++◌, map, fold, refl}
-use Rattle.std.specs.Prelude.{All, length, take, drop, Result, Ok, Err, OnOk}
+use Rattle.std.specs.Prelude.{◌≡◌, ◌||◌, [], ◌∷◌, ◌++◌, All, Bool, Err, List, Ok, OnOk, Result, drop, false, fold}
+use Rattle.std.specs.Prelude.{length, map, refl, take, true, ℕ}
 use Rattle.std.proofs.Common.{◌+◌, ◌<◌, ◌≤◌, suc, set, sym, ap, subst, ◌∙◌, arith}
 use Rattle.std.proofs.Math.Seq.{take-append_seam, take-suc-set}
 use Rattle.std.proofs.lemmas.List.{append-nil, append_assoc, take_all}
 use Rattle.std.proofs.lemmas.List.Elements.{All-push, All-head, All-tail}
 use Rattle.text_pieces.specs.Sources.{is_filled}
-use Rattle.tagged_lines.specs.Tagged.{Item, line_items}
+use Rattle.text_lines.specs.Tagged.{Item, line_items}
 use Rattle.text_pieces.specs.Items.{has_text}
 use Rattle.text_borders.specs.Lines.{text}
 use Rattle.text_borders.specs.Across.{CellLine}
@@ -54,7 +54,7 @@ all_taken other m tag first following ls b takes =
     ∙ (sym (bare other m tag b ls takes.unpadded)
     ∙ (ap (λ ms. add_block other m tag [] [] ls (record b { markers = ms })) (sym takes.unmarked)
     ∙ (ap (λ cs. add_block other m tag cs [] ls b) (sym (none first takes.at_first))
-    ∙ ap (λ cs. add_block other m tag first cs ls b) (sym (none following takes.behind)))))
+    ∙ ap (λ cs. add_block other m tag first cs ls b) (sym (none following takes.trailing)))))
 
 -- a text of another block stays as it is
 pub texts_settled : {T S : Type 0} (seen : T → S) (other : Measure) (tag : S) (ts : List (LaidText T))

@@ -1,17 +1,17 @@
 -- A block of lines: what it holds, and what each call makes of it. Where a call comes to no block, a character is wider
 -- than the lines at which its text wraps.
-use Rattle.std.specs.Prelude.{ℕ, Bool, true, false, not, ◌&&◌, ◌||◌, List, [], ◌∷◌, ◌++◌, Option, None, Some, map, fold}
-use Rattle.std.specs.Prelude.{if◌then◌else◌}
+use Rattle.std.specs.Prelude.{◌&&◌, ◌||◌, [], ◌∷◌, ◌++◌, if◌then◌else◌, Bool, List, None, Option, Some, false, fold}
+use Rattle.std.specs.Prelude.{map, not, true, ℕ}
 use Rattle.std.specs.Char.{is_whitespace}
 use Rattle.std.specs.List.{list_all, list_any}
 use Rattle.std.specs.Option.{option_map, option_and_then}
-use Rattle.tagged_lines.specs.Tagged.{Item, marker, tagged}
+use Rattle.text_lines.specs.Tagged.{Item, marker, tagged}
 use Rattle.text_pieces.specs.Items.{has_text}
 use Rattle.text_pieces.specs.Sources.{is_filled}
 use Rattle.text_pieces.specs.Modes.{is_preserved, is_same_mode}
 use Rattle.text_pieces.specs.declared.white_space.WhiteSpace.{WhiteSpace}
-use Rattle.text_wrapping.specs.Blocks.{Block, empty_block, padded, added, marked_by, fragments_taken, ended_lines}
-use Rattle.text_wrapping.specs.Blocks.{broken, has_columns}
+use Rattle.text_wrapping.specs.Blocks.{Block, added, broken, empty_block, ended_lines, fragments_taken, has_columns}
+use Rattle.text_wrapping.specs.Blocks.{marked_by, padded}
 use Rattle.text_borders.specs.Borders.{Border, has_holes, plain, horizontal, filled_to}
 use Rattle.text_borders.specs.Lines.{BlockLine, text, border}
 use Rattle.text_borders.specs.Across.{CellLine, Hanging, as_text}
@@ -72,11 +72,11 @@ abbrev pub without_running : {S : Type 0} → Laid S → Laid S
 without_running b = record b { running = None }
 
 -- the markers of a text that found no line, and its lines
-abbrev pub lines_behind : {S : Type 0} → List (List ℕ) × Block S → Option (List (List ℕ) × List (List (Item S)))
-lines_behind taken = option_map (λ lines. (taken.0, lines)) (ended_lines taken.1)
+abbrev pub lines_after : {S : Type 0} → List (List ℕ) × Block S → Option (List (List ℕ) × List (List (Item S)))
+lines_after taken = option_map (λ lines. (taken.0, lines)) (ended_lines taken.1)
 
 abbrev pub laid_text : {S : Type 0} → Block S → Option (List (List ℕ) × List (List (Item S)))
-laid_text source = option_and_then lines_behind (fragments_taken source)
+laid_text source = option_and_then lines_after (fragments_taken source)
 
 abbrev pub text_laid : {S : Type 0} → Measure → S → S → Laid S → List (List ℕ) × List (List (Item S)) → Laid S
 text_laid m tag fill b laid = with_markers laid.0 (add_text_lines m tag fill laid.1 b)
@@ -93,15 +93,15 @@ flush m tag b = flush_of m tag b.running (without_running b)
 abbrev pub started : {S : Type 0} → Laid S → Laid S
 started b = record b { awaits = false }
 
-abbrev pub behind_empty_line : {S : Type 0} → Measure → S → Laid S → Laid S
-behind_empty_line m tag b = started (add_line m tag false [] b)
+abbrev pub after_empty_line : {S : Type 0} → Measure → S → Laid S → Laid S
+after_empty_line m tag b = started (add_line m tag false [] b)
 
 abbrev pub add_empty_line : {S : Type 0} → Measure → S → Laid S → Option (Laid S)
-add_empty_line m tag b = option_map (behind_empty_line m tag) (flush m tag b)
+add_empty_line m tag b = option_map (after_empty_line m tag) (flush m tag b)
 
 -- an empty line where a line has content
 abbrev pub parted : {S : Type 0} → Measure → S → Laid S → Laid S
-parted m tag b = if has_content b.lines then behind_empty_line m tag b else started b
+parted m tag b = if has_content b.lines then after_empty_line m tag b else started b
 
 abbrev pub start_block : {S : Type 0} → Measure → S → Laid S → Option (Laid S)
 start_block m tag b = option_map (parted m tag) (flush m tag b)
@@ -123,11 +123,11 @@ running_or_new m tag None = record { mode = None; text = empty_block m.wrap_widt
 running_or_new m tag (Some r) = r
 
 -- an empty text has no mode
-abbrev pub mode_behind : WhiteSpace → List ℕ → Option WhiteSpace → Option WhiteSpace
-mode_behind mode cs old = if is_filled cs then Some mode else old
+abbrev pub next_mode : WhiteSpace → List ℕ → Option WhiteSpace → Option WhiteSpace
+next_mode mode cs old = if is_filled cs then Some mode else old
 
 abbrev pub with_added : {S : Type 0} → WhiteSpace → List ℕ → Running S → Block S → Running S
-with_added mode cs r source = record r { mode = mode_behind mode cs r.mode; text = source }
+with_added mode cs r source = record r { mode = next_mode mode cs r.mode; text = source }
 
 -- a marker waits for the next word; it gives the text no mode
 abbrev pub with_marker : {S : Type 0} → List ℕ → Running S → Running S

@@ -1,7 +1,7 @@
 -- Rows of cells in a block.
 use Rattle.std.specs.Prelude.{ℕ, Bool, List, [], ◌∷◌, ◌++◌, Option, None, Some, fold, if◌then◌else◌}
 use Rattle.std.specs.Option.{option_map}
-use Rattle.tagged_lines.specs.Tagged.{Item}
+use Rattle.text_lines.specs.Tagged.{Item}
 use Rattle.text_pieces.specs.Items.{has_text}
 use Rattle.text_borders.specs.Borders.{Border, plain}
 use Rattle.text_borders.specs.Lines.{BlockLine, text, border}

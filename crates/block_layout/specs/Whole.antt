@@ -14,7 +14,7 @@ IsText (border b) = ⊥
 pub record TakesAll {S : Type 0} (m : Measure) (first following : List ℕ) (b : Laid S) : Type 0 where
   pub unpadded : m.pads ≡ false
   pub at_first : is_filled first ≡ false
-  pub behind : is_filled following ≡ false
+  pub trailing : is_filled following ≡ false
   pub unmarked : b.markers ≡ []
 
 -- a line of another block, as text

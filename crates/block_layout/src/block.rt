@@ -1,16 +1,16 @@
 //! Blocks of lines.
 ghost use Rattle.std.specs.Prelude.{◌≡◌, ◌⊎◌, None, Some, map, All, IfOk, IfErr, OnOk};
-ghost use Rattle.tagged_lines.specs.Tagged.{line_items, IsJoined};
+ghost use Rattle.text_lines.specs.Tagged.{line_items, IsJoined};
 ghost use Rattle.text_pieces.specs.declared.fault.BlockError.TheVariants as errors;
 
 use crate::lines::LaidLines;
 use crate::measure::Measure;
 use crate::running::Running;
-use crate::texts::{behind_names, fill_line, finished_lines};
+use crate::texts::{after_names, fill_line, finished_lines};
 use std::alloc::{AllocError, Global};
-use tagged_lines::{EqualCopy, TaggedLine};
 use text_borders::{BorderHoriz, RenderLine};
 use text_cells::{BlockLines, HangingCell, LaidLine};
+use text_lines::{EqualCopy, TaggedLine};
 use text_pieces::{BlockError, LaidText, has_text};
 
 /// A block of lines, and the text that runs after them. A call that is refused leaves a part of what it was to add.
@@ -40,12 +40,10 @@ impl<T: Drop> Drop for BlockLayout<T> {
 
 impl<T: EqualCopy + Drop> BlockLayout<T> {
     ghost use Rattle.block_layout.specs.Seen.{laid_of, running_of, RunsJoined, HasJoinedTexts};
-    ghost use Rattle.block_layout.specs.Laid.{nothing_laid, is_nothing, has_no_text, add_line, add_border};
-    ghost use Rattle.block_layout.specs.Laid.{add_text_line};
-    ghost use Rattle.block_layout.specs.Laid.{add_text_lines, laid_text, flush_of, flush, with_markers};
-    ghost use Rattle.block_layout.specs.Laid.{behind_empty_line};
-    ghost use Rattle.block_layout.specs.Laid.{add_empty_line, parted, start_block, start_table, end_block};
-    ghost use Rattle.block_layout.specs.Laid.{finished_lines};
+    ghost use Rattle.block_layout.specs.Laid.{add_border, add_empty_line, add_line, add_text_line, add_text_lines};
+    ghost use Rattle.block_layout.specs.Laid.{after_empty_line, end_block, finished_lines, flush, flush_of};
+    ghost use Rattle.block_layout.specs.Laid.{has_no_text, is_nothing, laid_text, nothing_laid, parted, start_block};
+    ghost use Rattle.block_layout.specs.Laid.{start_table, with_markers};
     ghost use Rattle.text_borders.specs.Borders.{border_of};
     ghost use Rattle.text_borders.specs.Lines.{render_line_of, IsJoinedText};
     ghost use Rattle.text_cells.specs.Cells.{block_lines_of, AreBlockLinesJoined};
@@ -94,7 +92,7 @@ impl<T: EqualCopy + Drop> BlockLayout<T> {
         ensures joined { HasJoinedTexts T.seen self.old → IsJoined T.seen line
             → HasJoinedTexts T.seen self.new }
     {
-        let mut line = behind_names(&self.markers, line)?;
+        let mut line = after_names(&self.markers, line)?;
         self.markers.clear();
         fill_line(&mut line, measure.width, measure.pads, tag)?;
         let line = RenderLine::Text(line);
@@ -205,7 +203,7 @@ impl<T: EqualCopy + Drop> BlockLayout<T> {
 
     fn put_empty_line(&mut self, measure: Measure, tag: &T) -> Result<(), AllocError>
         ensures laid { OnOk result (laid_of T.seen self.new
-            ≡ behind_empty_line measure (T.seen tag.now) (laid_of T.seen self.old)) }
+            ≡ after_empty_line measure (T.seen tag.now) (laid_of T.seen self.old)) }
         ensures joined { HasJoinedTexts T.seen self.old → HasJoinedTexts T.seen self.new }
     {
         let empty = TaggedLine::new(*self.markers.allocator());

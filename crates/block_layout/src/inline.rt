@@ -12,14 +12,13 @@ use crate::measure::Measure;
 use crate::running::Running;
 use crate::texts::holds_text;
 use std::alloc::AllocError;
-use tagged_lines::EqualCopy;
+use text_lines::EqualCopy;
 use text_pieces::{BlockError, WhiteSpace};
 
 impl<T: EqualCopy + Drop> BlockLayout<T> {
     ghost use Rattle.block_layout.specs.Seen.{laid_of, running_of, RunsJoined, HasJoinedTexts};
-    ghost use Rattle.block_layout.specs.Laid.{flush, add_text, enter_mode, run_on, runs_otherwise, running_or_new};
-    ghost use Rattle.block_layout.specs.Laid.{without_running};
-    ghost use Rattle.block_layout.specs.Laid.{is_ignored, start_awaited, mark, break_line, break_of, broken_line};
+    ghost use Rattle.block_layout.specs.Laid.{add_text, break_line, break_of, enter_mode, flush, is_ignored, mark};
+    ghost use Rattle.block_layout.specs.Laid.{run_on, runs_otherwise, start_awaited, without_running};
 
     /// Adds text after what runs; a text of another mode of white space ends that first. Where it begins to run here,
     /// its lines are filled with spaces of the tag. Refused as `flush`.
@@ -45,7 +44,7 @@ impl<T: EqualCopy + Drop> BlockLayout<T> {
     }
 
     /// Adds text of one tag as `add_text` does under any tag, where a text runs that has no other mode, its white space
-    /// is not preserved, and no block is awaited. Tells whether it did; else nothing has changed. The error is
+    /// is not preserved, and no block is awaited. Emits whether it did; else nothing has changed. The error is
     /// allocation failure alone.
     #[inline(always)]
     pub fn add_more(&mut self, mode: WhiteSpace, text: &str, tag: &T) -> Result<bool, AllocError>

@@ -35,7 +35,7 @@
 //!
 //! A refused call leaves a part of what it was to add.
 //!
-//! `layout_laws` has what follows for lines: `calls_keep_the_width` (where overflow is off, each call keeps every
+//! `block_layout_laws` has what follows for lines: `calls_keep_the_width` (where overflow is off, each call keeps every
 //! line within the block's width, if borders, cells and prefixed blocks that are added have room in it),
 //! `overflow_never_refuses` (where it is on, no call is too narrow) and `cells_hang_until_a_row` (no call but a row
 //! and the start of a table touches the cells that go on). The first two hold of lines of text that are added as
@@ -55,4 +55,3 @@ mod texts;
 
 pub use block::BlockLayout;
 pub use measure::Measure;
-pub use text_cells::{BlockLines, LaidLine, LineSet};

@@ -1,6 +1,6 @@
 //! Lines of other blocks.
 ghost use Rattle.std.specs.Prelude.{◌≡◌, ◌⊎◌, [], ◌∷◌, ◌++◌, ◌||◌, None, Some, chars, map, IfErr, OnOk, IfOk, IsTrue};
-ghost use Rattle.tagged_lines.specs.Tagged.{line_items, tagged, IsJoined};
+ghost use Rattle.text_lines.specs.Tagged.{line_items, tagged, IsJoined};
 ghost use Rattle.text_borders.specs.Lines.{render_line_of, IsJoinedText};
 ghost use Rattle.text_cells.specs.Cells.{laid_line_of, texts_of, parts_lines, block_lines_of};
 ghost use Rattle.text_pieces.specs.Sources.{is_filled};
@@ -14,9 +14,9 @@ use crate::measure::Measure;
 use crate::texts::{finished, holds_text};
 use std::alloc::{AllocError, Global};
 use std::mem;
-use tagged_lines::{EqualCopy, TaggedLine};
 use text_borders::{BorderHoriz, RenderLine};
 use text_cells::{BlockLines, LaidLine, Part, WideTexts};
+use text_lines::{EqualCopy, TaggedLine};
 use text_pieces::BlockError;
 
 impl<T: EqualCopy + Drop> BlockLayout<T> {
@@ -155,16 +155,16 @@ impl<T: EqualCopy + Drop> BlockLayout<T> {
             (chars prefix.now) (laid_of T.seen self.old) (laid_line_of T.seen line)) }
         ensures joined { HasJoinedTexts T.seen self.old → HasJoinedTexts T.seen self.new }
     {
-        let content = has_content_behind(prefix, content_as_text(&line.line, line.content));
+        let content = has_content_after(prefix, content_as_text(&line.line, line.content));
         let alloc = *self.markers.allocator();
         let text = finished(other, line.line)?.into_text(alloc, tag)?;
-        let prefixed = behind_prefix(alloc, prefix, tag, text)?;
+        let prefixed = after_prefix(alloc, prefix, tag, text)?;
         self.add_line(measure, tag, content, prefixed)
     }
 }
 
 /// The line after a prefix with the tag.
-fn behind_prefix<T: EqualCopy + Drop>(
+fn after_prefix<T: EqualCopy + Drop>(
     alloc: Global,
     prefix: &str,
     tag: &T,
@@ -317,7 +317,7 @@ fn content_as_text<T: EqualCopy + Drop>(line: &RenderLine<T>, content: bool) -> 
 }
 
 /// Whether a line after a prefix has content.
-fn has_content_behind(prefix: &str, content: bool) -> bool
+fn has_content_after(prefix: &str, content: bool) -> bool
     ensures { result ≡ (content || is_filled (chars prefix.now)) }
 {
     content || holds_text(prefix)

@@ -3,27 +3,27 @@ ghost use Rattle.std.specs.Prelude.{◌≡◌, ◌⊎◌, false, None, Some, map
 ghost use Rattle.std.specs.Option.{option_map};
 ghost use Rattle.text_borders.specs.Borders.{border_of};
 ghost use Rattle.text_borders.specs.Lines.{IsJoinedText};
-ghost use Rattle.tagged_lines.specs.Tagged.{line_items, IsJoined};
-ghost use Rattle.text_cells.specs.Cells.{cell_of, hanging_of, laid_line_of, row_of, row_lines_of, AreRowLines};
-ghost use Rattle.text_cells.specs.Cells.{texts_items, HaveTextContent};
+ghost use Rattle.text_lines.specs.Tagged.{line_items, IsJoined};
+ghost use Rattle.text_cells.specs.Cells.{AreRowLines, HaveTextContent, cell_of, hanging_of, laid_line_of, row_lines_of};
+ghost use Rattle.text_cells.specs.Cells.{row_of, texts_items};
 ghost use Rattle.text_pieces.specs.declared.fault.BlockError.TheVariants as errors;
 
 use crate::block::BlockLayout;
 use crate::measure::Measure;
 use std::alloc::AllocError;
 use std::mem;
-use tagged_lines::{EqualCopy, TaggedLine};
 use text_borders::{BorderHoriz, RenderLine};
 use text_cells::{
     HangingCell, LaidLine, LineSet, Row, RowLines, WideTexts, joined_line, lay_across,
 };
+use text_lines::{EqualCopy, TaggedLine};
 use text_pieces::{BlockError, has_text};
 
 impl<T: EqualCopy + Drop> BlockLayout<T> {
     ghost use Rattle.block_layout.specs.Seen.{laid_of, HasJoinedTexts};
     ghost use Rattle.block_layout.specs.Laid.{add_border, without_hanging};
-    ghost use Rattle.block_layout.specs.LaidRows.{border_line, put_back, last_border, without_last_border, with_border};
-    ghost use Rattle.block_layout.specs.LaidRows.{add_row_line, add_row_lines, with_row, row_laid, add_row};
+    ghost use Rattle.block_layout.specs.LaidRows.{add_row, add_row_line, add_row_lines, border_line, last_border};
+    ghost use Rattle.block_layout.specs.LaidRows.{put_back, row_laid, with_border, with_row, without_last_border};
 
     /// Adds cells beside one another: below the last line, where that is a border, and with a border below them where
     /// borders are drawn. `collapse` takes the borders that are a cell's first and last line into those. Refused as

@@ -3,7 +3,7 @@
 use crate::measure::Measure;
 use crate::texts::holds_text;
 use std::alloc::{AllocError, Global};
-use tagged_lines::EqualCopy;
+use text_lines::EqualCopy;
 use text_pieces::{BlockError, LaidText, WhiteSpace};
 use text_wrapping::TextBlock;
 
@@ -18,17 +18,17 @@ pub(crate) struct Running<T> {
 
 ghost use Rattle.std.specs.Prelude.{◌≡◌, not, chars};
 ghost use Rattle.text_pieces.specs.Modes.{is_same_mode};
-ghost use Rattle.block_layout.specs.Laid.{mode_behind};
+ghost use Rattle.block_layout.specs.Laid.{next_mode};
 
 impl<T: EqualCopy + Drop> Running<T> {
     ghost use Rattle.std.specs.Prelude.{◌⊎◌, false, None, Some, map, All, IsTrue, IfOk, IfErr, OnOk};
     ghost use Rattle.std.specs.Option.{option_map};
-    ghost use Rattle.tagged_lines.specs.Tagged.{line_items, IsJoined};
+    ghost use Rattle.text_lines.specs.Tagged.{line_items, IsJoined};
     ghost use Rattle.text_pieces.specs.Sources.{names};
     ghost use Rattle.text_pieces.specs.declared.fault.BlockError.TheVariants as errors;
     ghost use Rattle.text_wrapping.specs.Blocks.{added, broken, has_columns};
-    ghost use Rattle.block_layout.specs.Laid.{running_or_new, is_other_mode, with_added, with_marker, with_text_of};
-    ghost use Rattle.block_layout.specs.Laid.{laid_text};
+    ghost use Rattle.block_layout.specs.Laid.{is_other_mode, laid_text, running_or_new, with_added, with_marker};
+    ghost use Rattle.block_layout.specs.Laid.{with_text_of};
     ghost use Rattle.block_layout.specs.Seen.{running_of, RunsJoined};
 
     /// An empty text, whose lines are filled with spaces of the tag.
@@ -85,7 +85,7 @@ impl<T: EqualCopy + Drop> Running<T> {
         ensures joined { RunsJoined T.seen self.old → RunsJoined T.seen self.new }
     {
         self.text.add_text(text, mode, main_tag, wrap_tag)?;
-        self.mode = mode_behind(mode, text, self.mode);
+        self.mode = next_mode(mode, text, self.mode);
         Ok(())
     }
 
@@ -113,7 +113,7 @@ impl<T: EqualCopy + Drop> Running<T> {
         if !self.text.add_more(text, mode, tag)? {
             return Ok(false);
         }
-        self.mode = mode_behind(mode, text, self.mode);
+        self.mode = next_mode(mode, text, self.mode);
         Ok(true)
     }
 
@@ -162,8 +162,8 @@ fn is_other_mode(mode: WhiteSpace, other: WhiteSpace) -> bool
 
 /// The mode of a text that had another, or none, after more of it.
 #[inline(always)]
-fn mode_behind(mode: WhiteSpace, text: &str, begun: Option<WhiteSpace>) -> Option<WhiteSpace>
-    ensures { result ≡ mode_behind mode (chars text.now) begun }
+fn next_mode(mode: WhiteSpace, text: &str, begun: Option<WhiteSpace>) -> Option<WhiteSpace>
+    ensures { result ≡ next_mode mode (chars text.now) begun }
 {
     if holds_text(text) {
         return Some(mode);

@@ -1,6 +1,6 @@
 //! Lines of text: after markers, filled, and made of borders.
 ghost use Rattle.std.specs.Prelude.{◌≡◌, ◌++◌, map, if◌then◌else◌, None, Some, chars, All, IfOk, OnOk};
-ghost use Rattle.tagged_lines.specs.Tagged.{line_items, marker, IsJoined};
+ghost use Rattle.text_lines.specs.Tagged.{line_items, marker, IsJoined};
 ghost use Rattle.text_pieces.specs.Sources.{is_filled, names};
 ghost use Rattle.text_wrapping.specs.Blocks.{padded};
 ghost use Rattle.text_borders.specs.Borders.{border_of};
@@ -11,13 +11,13 @@ ghost use Rattle.block_layout.specs.Seen.{AreLinesJoined};
 
 use crate::measure::Measure;
 use std::alloc::{AllocError, Global};
-use tagged_lines::{EqualCopy, TaggedLine};
 use text_borders::{BorderHoriz, RenderLine};
 use text_cells::LaidLine;
+use text_lines::{EqualCopy, TaggedLine};
 use text_wrapping::pad;
 
 /// The line after markers.
-pub(crate) fn behind_names<T: EqualCopy + Drop>(
+pub(crate) fn after_names<T: EqualCopy + Drop>(
     waiting: &[String],
     line: TaggedLine<T>,
 ) -> Result<TaggedLine<T>, AllocError>

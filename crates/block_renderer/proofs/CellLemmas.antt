@@ -4,8 +4,8 @@ use Rattle.std.specs.Option.{option_map, option_and_then}
 use Rattle.std.proofs.Common.{sym, ap, ◌∙◌, length, map, arith}
 use Rattle.std.proofs.lemmas.List.{append_assoc, append-nil}
 use Rattle.text_borders.specs.Across.{Cell}
-use Rattle.renderer_calls.specs.Renderers.{Sub, cell_of_sub, before_cells, cells_of_subs, flush_sub, append_sub}
-use Rattle.renderer_calls.specs.Renderers.{add_below, add_first}
+use Rattle.block_trait.specs.Renderers.{Sub, add_below, add_first, append_sub, before_cells, cell_of_sub, cells_of_subs}
+use Rattle.block_trait.specs.Renderers.{flush_sub}
 
 some_same : {A : Type 0} (x y : A) → Some x ≡ Some y → x ≡ y
 some_same x y e = cc

@@ -2,11 +2,11 @@
 use Rattle.std.specs.Prelude.{◌≡◌, ℕ, Bool, true, false, List, [], ◌∷◌, Option, None, Some, refl, if◌then◌else◌}
 use Rattle.std.specs.Option.{option_map}
 use Rattle.std.proofs.Common.{sym, ap, ◌∙◌, fold}
-use Rattle.tagged_lines.specs.Tagged.{Item}
-use Rattle.footnote_lines.specs.Footnotes.{footnote_lines}
-use Rattle.footnote_lines.specs.Cuts.{lines_within}
+use Rattle.text_lines.specs.Tagged.{Item}
+use Rattle.text_footnotes.specs.Footnotes.{footnote_lines}
+use Rattle.text_footnotes.specs.Cuts.{lines_within}
 use Rattle.block_layout.specs.Laid.{Laid}
-use Rattle.renderer_calls.specs.Renderers.{Sub, with_laid, on_laid}
+use Rattle.block_trait.specs.Renderers.{Sub, with_laid, on_laid}
 use Rattle.block_renderer.specs.Footnotes.{add_footnote, with_footnote}
 
 some_same : {A : Type 0} (x y : A) → Some x ≡ Some y → x ≡ y

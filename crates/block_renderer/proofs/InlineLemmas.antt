@@ -1,19 +1,19 @@
 -- Text that is added under what stands.
-use Rattle.std.specs.Prelude.{◌≡◌, ◌⊎◌, ℕ, nat_lt, Bool, true, false, not, ◌&&◌, List, [], ◌∷◌, ◌++◌, Option, Some, map}
-use Rattle.std.specs.Prelude.{if◌then◌else◌, refl}
+use Rattle.std.specs.Prelude.{◌≡◌, ◌⊎◌, ◌&&◌, [], ◌∷◌, ◌++◌, if◌then◌else◌, Bool, List, Option, Some, false, map}
+use Rattle.std.specs.Prelude.{nat_lt, not, refl, true, ℕ}
 use Rattle.std.specs.Char.{is_whitespace}
 use Rattle.std.specs.List.{list_all}
 use Rattle.std.specs.Option.{option_and_then}
 use Rattle.std.proofs.Common.{inl, inr, sym, ap, ◌∙◌}
 use Rattle.std.proofs.lemmas.List.{map-append}
-use Rattle.text_marks.specs.Marks.{preformat_first, preformat_further}
+use Rattle.text_decorators.specs.Marks.{preformat_first, preformat_further}
 use Rattle.text_pieces.specs.Modes.{is_preserved}
 use Rattle.text_pieces.specs.declared.white_space.WhiteSpace.{WhiteSpace}
 use Rattle.block_layout.specs.declared.measure.Measure.{Measure}
 use Rattle.block_layout.specs.Laid.{Laid, is_ignored, start_awaited, start_block, add_text}
 use Rattle.block_layout.specs.LaidRows.{before_last}
-use Rattle.renderer_calls.specs.Renderers.{Marking, Sub, measure_of, mode_of, with_laid, on_laid, struck, struck_text}
-use Rattle.renderer_calls.specs.Renderers.{one_under, preformatted_added, tagged_added, text_added, add_inline}
+use Rattle.block_trait.specs.Renderers.{Marking, Sub, add_inline, measure_of, mode_of, on_laid, one_under}
+use Rattle.block_trait.specs.Renderers.{preformatted_added, struck, struck_text, tagged_added, text_added, with_laid}
 
 other_branch : {B : Type 0} (b : Bool) (x y : B) → b ≡ false → (if b then x else y) ≡ y
 other_branch true x y e = cc

@@ -1,4 +1,4 @@
 pub mod CellLemmas
-pub mod InlineLemmas
 pub mod FootnoteLemmas
+pub mod InlineLemmas
 pub mod ModeLemmas

@@ -1,10 +1,10 @@
 -- Lines after a page.
 use Rattle.std.specs.Prelude.{ℕ, List, Option, None, Some, fold, if◌then◌else◌}
 use Rattle.std.specs.Option.{option_map}
-use Rattle.tagged_lines.specs.Tagged.{Item}
-use Rattle.footnote_lines.specs.Footnotes.{footnote_lines}
+use Rattle.text_lines.specs.Tagged.{Item}
+use Rattle.text_footnotes.specs.Footnotes.{footnote_lines}
 use Rattle.block_layout.specs.Laid.{Laid, add_text_lines, flush}
-use Rattle.renderer_calls.specs.Renderers.{Sub, measure_of, with_laid, on_laid}
+use Rattle.block_trait.specs.Renderers.{Sub, measure_of, with_laid, on_laid}
 
 abbrev pub add_footnote : {H A : Type 0} → Sub H A → Laid (List A) → List (Item A) → Laid (List A)
 add_footnote s b items = add_text_lines (measure_of s) s.annotations s.annotations

@@ -1,4 +1,3 @@
 pub mod Footnotes
 pub mod NewParts
 pub mod Seen
-pub use Rattle.block_layout.specs.LaidRows

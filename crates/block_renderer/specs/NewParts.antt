@@ -1,6 +1,6 @@
 -- A renderer for a part of a block.
 use Rattle.std.specs.Prelude.{ℕ, min, [], ◌∷◌}
-use Rattle.renderer_calls.specs.Renderers.{Sub, mode_of, new_part}
+use Rattle.block_trait.specs.Renderers.{Sub, mode_of, new_part}
 
 -- White space and preformatting go on in it as they stand, strikeouts don't; `sub` is what a decorator made for it
 -- holds.

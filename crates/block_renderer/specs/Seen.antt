@@ -1,9 +1,9 @@
 -- What contracts see of a renderer over a decorator.
-use Rattle.std.specs.Prelude.{◌≡◌, ℕ, Bool, List, Option, None, Some, map, Vec}
+use Rattle.std.specs.Prelude.{◌≡◌, Bool, List, Option, None, Some, map, Vec}
 use Rattle.std.specs.Global.{Global}
-use Rattle.text_marks.specs.Marks.{DecoratorView, Mark}
+use Rattle.text_decorators.specs.Marks.{DecoratorView, Mark}
 use Rattle.block_layout.specs.Seen.{laid_of, HasJoinedTexts}
-use Rattle.renderer_calls.specs.Renderers.{Marking, Sub}
+use Rattle.block_trait.specs.Renderers.{Marking, Sub}
 use Rattle.block_renderer.specs.declared.sub_renderer.SubRenderer.{SubRenderer}
 
 -- annotations that stand together are a tag

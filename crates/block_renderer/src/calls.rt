@@ -5,16 +5,16 @@ ghost use Rattle.block_renderer.specs.Seen.{has_failed};
 ghost use Rattle.block_layout.specs.LaidRows.{before_last};
 
 use crate::sub_renderer::SubRenderer;
-use renderer_calls::Renderer;
+use block_trait::Renderer;
 use smallvec::SmallVec;
-use text_marks::{Colour, TextDecorator};
+use text_decorators::{Colour, TextDecorator};
 use text_pieces::{BlockError, WhiteSpace};
 
 impl<D: TextDecorator + Drop> Renderer for SubRenderer<D> {
     ghost use Rattle.std.specs.Prelude.{◌≡◌, true, ◌||◌};
-    ghost use Rattle.renderer_calls.specs.Calls.{step, call_of, adds_cells, adds_rows_below};
-    ghost use Rattle.renderer_calls.specs.Outcomes.{IsOutcome};
-    ghost use Rattle.renderer_calls.specs.Renderers.{new_part};
+    ghost use Rattle.block_trait.specs.Calls.{step, call_of, adds_cells, adds_rows_below};
+    ghost use Rattle.block_trait.specs.Outcomes.{IsOutcome};
+    ghost use Rattle.block_trait.specs.Renderers.{new_part};
     ghost use Rattle.block_renderer.specs.Seen.{sub_of, has_failed, Comes, Fails, IsJoinedSub};
     ghost use Rattle.block_layout.specs.Laid.{is_nothing};
 

@@ -1,19 +1,18 @@
 //! Text of a renderer.
-ghost use Rattle.std.specs.Prelude.{◌≡◌, ◌⊎◌, ◌++◌, ◌∷◌, false, [], map, chars};
-ghost use Rattle.std.specs.Prelude.{Err, IsTrue, IfOk, IfErr, OnOk};
+ghost use Rattle.std.specs.Prelude.{◌≡◌, ◌⊎◌, ◌++◌, ◌∷◌, [], Err, IfErr, IfOk, IsTrue, OnOk, chars, false, map};
 ghost use Rattle.text_pieces.specs.declared.fault.BlockError.TheVariants as errors;
 ghost use Rattle.block_layout.specs.Laid.{add_text};
-ghost use Rattle.renderer_calls.specs.Renderers.{struck};
+ghost use Rattle.block_trait.specs.Renderers.{struck};
 
 use crate::sub_renderer::SubRenderer;
-use renderer_calls::struck;
+use block_trait::struck;
 use std::alloc::AllocError;
-use tagged_lines::EqualCopy;
-use text_marks::TextDecorator;
+use text_decorators::TextDecorator;
+use text_lines::EqualCopy;
 use text_pieces::BlockError;
 
 impl<D: TextDecorator + Drop> SubRenderer<D> {
-    ghost use Rattle.renderer_calls.specs.Renderers.{on_laid, preformatted_added, tagged_added, text_added, add_inline};
+    ghost use Rattle.block_trait.specs.Renderers.{on_laid, preformatted_added, tagged_added, text_added, add_inline};
     ghost use Rattle.block_renderer.specs.Seen.{sub_of, Comes, Fails, IsJoinedSub};
 
     /// Adds text, unless it is ignored after a block.

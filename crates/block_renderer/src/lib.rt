@@ -9,7 +9,4 @@ mod parts;
 mod printing;
 mod sub_renderer;
 
-pub use renderer_calls::{ImageRenderMode, RenderOptions, Renderer};
 pub use sub_renderer::SubRenderer;
-pub use text_borders::{BorderHoriz, BorderSegHoriz, RenderLine};
-pub use text_cells::LineSet;

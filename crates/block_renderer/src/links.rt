@@ -1,22 +1,22 @@
 //! Lines after a page.
-ghost use Rattle.std.specs.Prelude.{◌≡◌, ◌⊎◌, false, true, None, Some, fold, map, is_err, Err, IfOk, IfErr, OnOk};
-ghost use Rattle.std.specs.Prelude.{OnErr};
-ghost use Rattle.tagged_lines.specs.Tagged.{line_items};
-ghost use Rattle.text_marks.specs.Marks.{page_end, seen_lines};
+ghost use Rattle.std.specs.Prelude.{◌≡◌, ◌⊎◌, Err, IfErr, IfOk, None, OnErr, OnOk, Some, false, fold, is_err, map};
+ghost use Rattle.std.specs.Prelude.{true};
+ghost use Rattle.text_lines.specs.Tagged.{line_items};
+ghost use Rattle.text_decorators.specs.Marks.{page_end, seen_lines};
 ghost use Rattle.text_pieces.specs.Sources.{names};
 ghost use Rattle.text_pieces.specs.declared.fault.BlockError.TheVariants as errors;
 
 use crate::sub_renderer::SubRenderer;
-use footnote_lines::into_footnote_lines;
 use std::alloc::AllocError;
-use tagged_lines::TaggedLine;
-use text_marks::TextDecorator;
+use text_decorators::TextDecorator;
+use text_footnotes::into_footnote_lines;
+use text_lines::TaggedLine;
 use text_pieces::BlockError;
 
 impl<D: TextDecorator + Drop> SubRenderer<D> {
     ghost use Rattle.block_renderer.specs.Footnotes.{add_footnotes, with_footnote, footnote_width};
-    ghost use Rattle.renderer_calls.specs.Outcomes.{IsOutcome};
-    ghost use Rattle.renderer_calls.specs.Renderers.{with_held};
+    ghost use Rattle.block_trait.specs.Outcomes.{IsOutcome};
+    ghost use Rattle.block_trait.specs.Renderers.{with_held};
     ghost use Rattle.block_renderer.specs.Seen.{sub_of, has_failed, IsJoinedSub};
 
     /// Makes the text that runs lines, and adds what lines after the page give: each annotation stands alone, and

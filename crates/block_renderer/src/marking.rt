@@ -1,17 +1,17 @@
 //! Marked text of a renderer.
 ghost use Rattle.std.specs.Prelude.{◌≡◌, ◌⊎◌, None, Some, true, chars, is_err, Err, IfErr, OnOk};
-ghost use Rattle.text_marks.specs.Marks.{colour_start, background_start};
+ghost use Rattle.text_decorators.specs.Marks.{colour_start, background_start};
 ghost use Rattle.std.specs.Option.{option_map};
 ghost use Rattle.text_pieces.specs.declared.fault.BlockError.TheVariants as errors;
 
 use crate::sub_renderer::SubRenderer;
-use renderer_calls::{drop_last, shown_title};
+use block_trait::{drop_last, shown_title};
 use std::alloc::AllocError;
-use text_marks::{Colour, TextDecorator};
+use text_decorators::{Colour, TextDecorator};
 use text_pieces::BlockError;
 
 impl<D: TextDecorator + Drop> SubRenderer<D> {
-    ghost use Rattle.renderer_calls.specs.Renderers.{add_inline, pushed, popped, add_image, begin_colour, add_titled};
+    ghost use Rattle.block_trait.specs.Renderers.{add_inline, pushed, popped, add_image, begin_colour, add_titled};
     ghost use Rattle.block_renderer.specs.Seen.{sub_of, has_failed, Comes, Fails, IsJoinedSub};
 
     /// The annotation stands, and then the text is added; a refusal is noted.

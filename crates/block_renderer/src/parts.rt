@@ -2,19 +2,19 @@
 ghost use Rattle.std.specs.Prelude.{◌≡◌, ◌⊎◌, None, Some, [], map, chars, Err, IfOk, IfErr, OnOk};
 ghost use Rattle.std.specs.Option.{option_map};
 ghost use Rattle.text_cells.specs.Cells.{cell_of};
-ghost use Rattle.renderer_calls.specs.Renderers.{cells_of_subs};
+ghost use Rattle.block_trait.specs.Renderers.{cells_of_subs};
 ghost use Rattle.block_renderer.specs.Seen.{sub_of, tags_seen};
 ghost use Rattle.text_pieces.specs.declared.fault.BlockError.TheVariants as errors;
 
 use crate::sub_renderer::SubRenderer;
 use std::alloc::{AllocError, Global};
 use text_cells::LineSet;
-use text_marks::TextDecorator;
+use text_decorators::TextDecorator;
 use text_pieces::BlockError;
 
 impl<D: TextDecorator + Drop> SubRenderer<D> {
-    ghost use Rattle.renderer_calls.specs.Renderers.{add_sub, append_sub, add_cells, flush_sub, cell_of_sub};
-    ghost use Rattle.renderer_calls.specs.Renderers.{slashed, ruled, add_below, add_first, add_rows_below};
+    ghost use Rattle.block_trait.specs.Renderers.{add_cells, add_first, add_rows_below, add_sub, append_sub};
+    ghost use Rattle.block_trait.specs.Renderers.{cell_of_sub, flush_sub, ruled, slashed};
     ghost use Rattle.block_renderer.specs.Seen.{sub_of, IsJoinedSub};
 
     /// Adds the lines of another renderer after prefixes.

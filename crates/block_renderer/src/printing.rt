@@ -1,17 +1,16 @@
 //! The text of all lines.
-ghost use Rattle.std.specs.Prelude.{◌≡◌, ◌⊎◌, false, true, None, Some, chars, string_bytes};
-ghost use Rattle.std.specs.Prelude.{Err, IfOk, IfErr};
+ghost use Rattle.std.specs.Prelude.{◌≡◌, ◌⊎◌, Err, IfErr, IfOk, None, Some, chars, false, string_bytes, true};
 ghost use Rattle.std.specs.Option.{option_map};
 ghost use Rattle.text_pieces.specs.declared.fault.BlockError.TheVariants as errors;
-ghost use Rattle.renderer_calls.specs.Texts.{text_of_lines};
+ghost use Rattle.block_trait.specs.Texts.{text_of_lines};
 
 use crate::sub_renderer::SubRenderer;
-use renderer_calls::text_of_lines;
-use text_marks::TextDecorator;
+use block_trait::text_of_lines;
+use text_decorators::TextDecorator;
 use text_pieces::BlockError;
 
 impl<D: TextDecorator + Drop> SubRenderer<D> {
-    ghost use Rattle.renderer_calls.specs.Renderers.{lines_of_sub};
+    ghost use Rattle.block_trait.specs.Renderers.{lines_of_sub};
     ghost use Rattle.block_renderer.specs.Seen.{sub_of, has_failed};
 
     /// The characters of the lines, a line end after each. Refused as `into_lines`.

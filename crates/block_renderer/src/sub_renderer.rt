@@ -1,16 +1,15 @@
 //! Renderers over a decorator.
-ghost use Rattle.std.specs.Prelude.{◌≡◌, ◌⊎◌, [], false, true, None, Some, map, chars, is_err, Ok, Err};
-ghost use Rattle.std.specs.Prelude.{IfOk, IfErr, OnOk};
+ghost use Rattle.std.specs.Prelude.{◌≡◌, ◌⊎◌, [], Err, IfErr, IfOk, None, Ok, OnOk, Some, false, is_err, map, true};
 ghost use Rattle.text_pieces.specs.declared.fault.BlockError.TheVariants as errors;
 
 use block_layout::{BlockLayout, Measure};
-use renderer_calls::RenderOptions;
+use block_trait::RenderOptions;
 use smallvec::SmallVec;
 use std::alloc::{AllocError, Global};
-use tagged_lines::EqualCopy;
 use text_borders::RenderLine;
 use text_cells::BlockLines;
-use text_marks::TextDecorator;
+use text_decorators::TextDecorator;
+use text_lines::EqualCopy;
 use text_pieces::{BlockError, TooNarrow, WhiteSpace};
 
 /// A renderer of a block of lines, whose text a decorator marks.
@@ -49,9 +48,9 @@ impl<D: TextDecorator + Drop> Drop for SubRenderer<D> {
 }
 
 impl<D: TextDecorator + Drop> SubRenderer<D> {
-    ghost use Rattle.renderer_calls.specs.Bare.{bare_of};
-    ghost use Rattle.renderer_calls.specs.Renderers.{new_sub, new_part, measure_of, mode_of, flush_sub, with_border_of};
-    ghost use Rattle.renderer_calls.specs.Outcomes.{IsAnswered};
+    ghost use Rattle.block_trait.specs.Bare.{bare_of};
+    ghost use Rattle.block_trait.specs.Renderers.{new_sub, new_part, measure_of, mode_of, flush_sub, with_border_of};
+    ghost use Rattle.block_trait.specs.Outcomes.{IsAnswered};
     ghost use Rattle.block_renderer.specs.NewParts.{part_of};
     ghost use Rattle.block_renderer.specs.Seen.{sub_of, has_failed, IsJoinedSub};
 
@@ -233,7 +232,7 @@ impl<D: TextDecorator + Drop> SubRenderer<D> {
     ghost use Rattle.std.specs.Prelude.{map, All};
     ghost use Rattle.text_borders.specs.Lines.{render_line_of, IsJoinedText};
     ghost use Rattle.text_cells.specs.Cells.{block_lines_of};
-    ghost use Rattle.renderer_calls.specs.Renderers.{lines_of_sub, room_behind};
+    ghost use Rattle.block_trait.specs.Renderers.{lines_of_sub, room_after};
     ghost use Rattle.block_renderer.specs.Seen.{sub_of, tags_seen, has_failed, IsJoinedSub};
 
     /// The lines of the block, those of the text that runs too, filled where lines are. Refused as `TooNarrow` where a
@@ -293,9 +292,9 @@ impl<D: TextDecorator + Drop> SubRenderer<D> {
     /// `min_width`, or 1 if it is 0, is given if lines may pass the block's width, and the error is else `TooNarrow`.
     /// After a refused call the answer is the same.
     pub fn width_minus(&self, prefix_len: usize, min_width: usize) -> Result<usize, TooNarrow>
-        ensures room { IfOk result (λ n. room_behind prefix_len min_width (sub_of D.Annotation.seen D.view.held
+        ensures room { IfOk result (λ n. room_after prefix_len min_width (sub_of D.Annotation.seen D.view.held
             self.now) ≡ Some n) }
-        ensures narrow { IfErr result (λ _. room_behind prefix_len min_width (sub_of D.Annotation.seen D.view.held
+        ensures narrow { IfErr result (λ _. room_after prefix_len min_width (sub_of D.Annotation.seen D.view.held
             self.now) ≡ None) }
     {
         let least = min_width.max(1);

@@ -1,6 +1,6 @@
 -- What the words for how a call ends come to.
-use Rattle.std.proofs.Common.{◌≡◌, ◌⊎◌, inl, inr, ℕ, ◌+◌, ◌<◌, ◌≤◌, Bool, true, false, List, [], length, None}
-use Rattle.std.proofs.Common.{Some, IfSome, append-nil, refl, subst, sym, chars}
+use Rattle.std.proofs.Common.{◌≡◌, ◌⊎◌, ◌+◌, ◌<◌, ◌≤◌, [], Bool, IfSome, List, None, Some, append-nil, chars, false}
+use Rattle.std.proofs.Common.{inl, inr, length, refl, subst, sym, true, ℕ}
 use Rattle.std.specs.Io.KnownBytes.{Keeps}
 use Rattle.std.specs.Prelude.{◌||◌, Err, Ok, Result}
 use Rattle.html2text.proofs.ResponseLemmas.{appends_kept}

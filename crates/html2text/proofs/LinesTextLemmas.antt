@@ -3,11 +3,11 @@ use Rattle.std.proofs.Common.{◌≡◌, ℕ, List, [], ◌∷◌, ◌++◌, map
 use Rattle.std.specs.Prelude.{string_bytes}
 use Rattle.std.specs.Str.{chars}
 use Rattle.std.proofs.lemmas.Str.{chars-nil, chars-append, IsUtf8-string_bytes, IsUtf8-append, IsUtf8-nil}
-use Rattle.tagged_lines.specs.Tagged.{Item, characters, element_text, elements_items, elements_text, line_items}
-use Rattle.tagged_lines.specs.Tagged.{line_text, tagged}
-use Rattle.tagged_lines.specs.declared.tagged_line.TaggedLine.{TaggedLine}
-use Rattle.tagged_lines.specs.declared.tagged_string.TaggedLineElement.{TaggedLineElement}
-use Rattle.tagged_lines.specs.declared.tagged_string.TaggedLineElement.TheVariants.{Str, FragmentStart}
+use Rattle.text_lines.specs.Tagged.{Item, characters, element_text, elements_items, elements_text, line_items}
+use Rattle.text_lines.specs.Tagged.{line_text, tagged}
+use Rattle.text_lines.specs.declared.tagged_line.TaggedLine.{TaggedLine}
+use Rattle.text_lines.specs.declared.tagged_string.TaggedLineElement.{TaggedLineElement}
+use Rattle.text_lines.specs.declared.tagged_string.TaggedLineElement.TheVariants.{Str, FragmentStart}
 use Rattle.html2text.specs.LinesText.{elements_bytes, line_bytes, lines_bytes, newline}
 use Rattle.page_config.specs.PageAnswers.{lines_text}
 

@@ -1,14 +1,14 @@
 -- What is asked for is written in one way.
 use Rattle.std.proofs.Common.{◌≡◌, ℕ, Bool, true, false, List, sym, subst, ◌∙◌}
-use Rattle.command_words.specs.CommandWords.{Asked}
-use Rattle.reference_tables.specs.References.{References}
+use Rattle.command_line.specs.CommandWords.{Asked}
+use Rattle.lex_base.specs.References.{References}
 use Rattle.html2text.specs.Written.{EitherLook, IsSetting}
 use Rattle.page_config.proofs.SeenSettings.{AreAlike, answers_alike, texts_alike}
 use Rattle.page_config.specs.PageAnswers.{HasAnswer, HasText, PageAnswer, fail, lines, too_narrow}
-use Rattle.page_config.specs.PageLaws.{IsTextWithin}
-use Rattle.page_config.specs.PlainText.{plain_closes, plain_marking}
+use Rattle.html_render_tree.specs.PageLaws.{IsTextWithin}
+use Rattle.html_render_tree.specs.PlainText.{plain_closes, plain_marking}
 use Rattle.page_config.specs.RichPages.{HasRichAnswer, HasRichText}
-use Rattle.page_config.specs.RichText.{rich_closes, rich_marking}
+use Rattle.html_render_tree.specs.RichText.{rich_closes, rich_marking}
 use Rattle.page_config.specs.Settings.{PageSetting}
 use Rattle.text_decorators.specs.Annotations.{rich_tag}
 

@@ -1,18 +1,18 @@
 -- What is written in parts, and what a command line comes to.
-use Rattle.std.proofs.Common.{◌≡◌, ℕ, Bool, true, false, List, ◌++◌, Option, None, Some, ◌⊎◌, inl, inr, refl, sym, ap}
-use Rattle.std.proofs.Common.{subst, ◌∙◌, append_assoc, map, string_bytes, String, Vec, arith}
+use Rattle.std.proofs.Common.{◌≡◌, ◌++◌, ◌⊎◌, ◌∙◌, Bool, List, None, Option, Some, String, Vec, ap, append_assoc, arith}
+use Rattle.std.proofs.Common.{false, inl, inr, map, refl, string_bytes, subst, sym, true, ℕ}
 use Rattle.std.specs.Prelude.{Result, Ok, Err, IfOk, IfErr}
 use Rattle.std.specs.IoError.{error_kind}
 use Rattle.std.specs.declared.io.Error.{Error as IoFault}
 use Rattle.std.specs.Io.KnownBytes.{Appends, Keeps}
 use Rattle.std.proofs.KnownBytes.{Appends-trans}
-use Rattle.command_words.specs.CommandWords.{Asked, Asks, words_behind_name}
-use Rattle.command_words.specs.Requests.{asked_of}
-use Rattle.command_words.specs.WordFaults.{Explains, IsHelp, IsRefusedWith, fault_of_kind}
-use Rattle.command_words.specs.declared.words.Request.{Request}
-use Rattle.command_words.specs.declared.words.WordFault.{WordFault}
-use Rattle.command_words.specs.declared.words.WordFault.TheVariants as faults
-use Rattle.byte_devices.specs.KnownPart.{AppendsPart}
+use Rattle.command_line.specs.CommandWords.{Asked, Asks, words_after_name}
+use Rattle.command_line.specs.Requests.{asked_of}
+use Rattle.command_line.specs.WordFaults.{Explains, IsHelp, IsRefusedWith, fault_of_kind}
+use Rattle.command_line.specs.declared.words.Request.{Request}
+use Rattle.command_line.specs.declared.words.WordFault.{WordFault}
+use Rattle.command_line.specs.declared.words.WordFault.TheVariants as faults
+use Rattle.lex_base.specs.KnownPart.{AppendsPart}
 use Rattle.html2text.specs.Endings.{IsAnswered}
 use Rattle.html2text.specs.Responses.{Bytes, Files, IsAskedRefusal, IsAskedTableRefusal, IsOutcomeOf, IsRefusal}
 use Rattle.html2text.specs.Responses.{IsTableRefusal, WritesAnswer, WritesAnswerPart, WritesAsked, WritesAskedPart}
@@ -20,7 +20,7 @@ use Rattle.html2text.specs.Statuses.{status_of}
 use Rattle.html2text.specs.declared.outcome.Outcome.{Outcome}
 use Rattle.html2text.specs.declared.outcome.Outcome.TheVariants as outcomes
 use Rattle.html2text.proofs.WritingLemmas.{nothing_written, part_written}
-use Rattle.named_files.specs.declared.table_fault.TableFault.{TableFault}
+use Rattle.command_line.specs.declared.table_fault.TableFault.{TableFault}
 use Rattle.page_config.specs.declared.error.Error.{Error}
 use Rattle.page_config.specs.declared.error.Error.TheVariants as errors
 
@@ -48,7 +48,7 @@ appends_kept (Some xs) (Some ys) (Some zs) bytes added kept = kept ∙ added
 
 -- the words of a command line after the program's name
 abbrev pub asked_words : {A B : Type 0} → Vec (String A) B → List (List ℕ)
-asked_words words = words_behind_name (map string_bytes words.items)
+asked_words words = words_after_name (map string_bytes words.items)
 
 -- what a request asks, and what is wrong with words, as request_of says it
 pub record IsRead {A B : Type 0} (words : Result (Vec (String A) B) IoFault) (request : Result Request WordFault)
@@ -100,16 +100,16 @@ statuses outcomes.Table status e = inr (inr (inr e))
 
 -- an answer ends as one of a request may
 pub answered_outcome : (request : Request) (asked : Asked) (files : Files) (input : Bytes) (rf wf fl : Bool)
-    (before after : ℕ) (old new : Bytes) (Unread Untouched Silent : Type 0) (Told : List ℕ → Type 0)
+    (before after : ℕ) (old new : Bytes) (Unread Untouched Silent : Type 0) (Emitted : List ℕ → Type 0)
     (outcome : Outcome)
-    → IsAnswered asked files input rf wf fl before after old new Unread Untouched Silent Told outcome
+    → IsAnswered asked files input rf wf fl before after old new Unread Untouched Silent Emitted outcome
     → IsOutcomeOf (Ok request) outcome
-answered_outcome r asked files input rf wf fl b a old new R U S Told outcomes.Done is = inl refl
-answered_outcome r asked files input rf wf fl b a old new R U S Told (outcomes.Page error) is =
+answered_outcome r asked files input rf wf fl b a old new R U S Emitted outcomes.Done is = inl refl
+answered_outcome r asked files input rf wf fl b a old new R U S Emitted (outcomes.Page error) is =
     inr (inl (error, refl))
-answered_outcome r asked files input rf wf fl b a old new R U S Told outcomes.NotOpened is = inr (inr (inl refl))
-answered_outcome r asked files input rf wf fl b a old new R U S Told outcomes.Words is = absurd is
-answered_outcome r asked files input rf wf fl b a old new R U S Told outcomes.Table is = inr (inr (inr refl))
+answered_outcome r asked files input rf wf fl b a old new R U S Emitted outcomes.NotOpened is = inr (inr (inl refl))
+answered_outcome r asked files input rf wf fl b a old new R U S Emitted outcomes.Words is = absurd is
+answered_outcome r asked files input rf wf fl b a old new R U S Emitted outcomes.Table is = inr (inr (inr refl))
 
 -- ---- what was written
 
@@ -237,6 +237,6 @@ with_fault (Err error) fault read other = same_fault fault (fault_of_kind (error
 pub refused_with : {A B : Type 0} (words : Result (Vec (String A) B) IoFault) (request : Result Request WordFault)
     (outcome : Outcome) (T : WordFault → Type 0) → IsRead words request → IsOutcomeOf request outcome
     → outcome ≡ outcomes.Words → IfErr request T → (fault : WordFault) × T fault × IsRefusedWith words fault
-refused_with words request outcome T read is w told =
+refused_with words request outcome T read is w emitted =
     let by = refusing request outcome w is in
-    (by.0, subst (λ r. IfErr r T) by.1 told, with_fault words by.0 (subst (IsRead words) by.1 read) by.2)
+    (by.0, subst (λ r. IfErr r T) by.1 emitted, with_fault words by.0 (subst (IsRead words) by.1 read) by.2)

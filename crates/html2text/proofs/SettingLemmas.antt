@@ -1,17 +1,16 @@
 -- The configurations that the program makes for a request, and what they give.
 use Rattle.std.proofs.Common.{◌≡◌, ◌∙◌, ℕ, Bool, true, false, List, [], refl, sym, ap, subst}
 use Rattle.std.specs.Prelude.{not, ◌&&◌, ◌||◌, if◌then◌else◌}
-use Rattle.command_words.specs.CommandWords.{Asked}
-use Rattle.html2text.specs.Written.{EitherLook, HasAskedText, IsOtherPage, IsSetting, IsTooNarrowPage}
-use Rattle.html2text.specs.Written.{is_decorated}
-use Rattle.reference_tables.specs.References.{References}
+use Rattle.command_line.specs.CommandWords.{Asked}
+use Rattle.html2text.specs.Written.{EitherLook, HasAskedText, IsOtherPage, IsSetting, IsTooNarrowPage, is_decorated}
+use Rattle.lex_base.specs.References.{References}
 use Rattle.page_config.specs.RichPages.{rich_view}
-use Rattle.page_config.specs.PageAnswers.{Answers, IsTold, PageAnswer, fail, too_narrow}
+use Rattle.page_config.specs.PageAnswers.{Answers, IsEmitted, PageAnswer, fail, too_narrow}
 use Rattle.page_config.specs.PlainPages.{IsPlain, plain_view}
 use Rattle.page_config.specs.Settings.{PageSetting, by_default, rendered_with}
 use Rattle.render_conversion.specs.Decorating.{decorating_rules}
-use Rattle.renderer_calls.specs.Defaults.{default_options}
-use Rattle.renderer_calls.specs.declared.options.RenderOptions.{RenderOptions}
+use Rattle.block_trait.specs.Defaults.{default_options}
+use Rattle.block_trait.specs.declared.options.RenderOptions.{RenderOptions}
 use Rattle.text_decorators.specs.Annotations.{RichTag, rich_tag}
 use Rattle.text_decorators.specs.Laws.{rich_mark_tag, rich_tag_fits}
 
@@ -84,14 +83,14 @@ decorated_setting asked names c base rich decorate plain is =
 
 -- ---- what they give
 
-abbrev pub IsRichTold : PageSetting (Unit {0}) → ℕ → List ℕ → List ℕ → Type 0
-IsRichTold c width bytes told = IsTold rich_tag rich_view c width bytes told
+abbrev pub IsRichEmitted : PageSetting (Unit {0}) → ℕ → List ℕ → List ℕ → Type 0
+IsRichEmitted c width bytes emitted = IsEmitted rich_tag rich_view c width bytes emitted
 
 abbrev pub RichAnswers : PageSetting (Unit {0}) → ℕ → List ℕ → PageAnswer RichTag → Type 0
 RichAnswers c width bytes answer = Answers rich_tag rich_view c width bytes answer
 
-abbrev pub IsPlainTold : PageSetting (Unit {0}) → ℕ → List ℕ → List ℕ → Type 0
-IsPlainTold c width bytes told = IsTold {A = Unit {0}} (λ _. tt) plain_view c width bytes told
+abbrev pub IsPlainEmitted : PageSetting (Unit {0}) → ℕ → List ℕ → List ℕ → Type 0
+IsPlainEmitted c width bytes emitted = IsEmitted {A = Unit {0}} (λ _. tt) plain_view c width bytes emitted
 
 abbrev pub PlainAnswers : PageSetting (Unit {0}) → ℕ → List ℕ → PageAnswer (Unit {0}) → Type 0
 PlainAnswers c width bytes answer = Answers {A = Unit {0}} (λ _. tt) plain_view c width bytes answer
@@ -105,9 +104,9 @@ plain_look true R P e p = cc
 plain_look false R P e p = p
 
 module _ (asked : Asked) (names : References) (c : PageSetting (Unit {0})) (is : IsSetting asked names c) where
-  pub rich_has : asked.rich ≡ true → (page told : List ℕ) → IsRichTold c asked.width page told
-      → HasAskedText asked names page told
-  rich_has rich page told has = record {
+  pub rich_has : asked.rich ≡ true → (page emitted : List ℕ) → IsRichEmitted c asked.width page emitted
+      → HasAskedText asked names page emitted
+  rich_has rich page emitted has = record {
     setting = c;
     is = is;
     has = rich_look asked.rich _ _ rich
@@ -132,9 +131,9 @@ module _ (asked : Asked) (names : References) (c : PageSetting (Unit {0})) (is :
         (has (λ _ m. rich_mark_tag m) (λ h m a given. rich_tag_fits m a given));
   }
 
-  pub plain_has : asked.rich ≡ false → (page told : List ℕ) → IsPlainTold c asked.width page told
-      → HasAskedText asked names page told
-  plain_has plain page told has = record {
+  pub plain_has : asked.rich ≡ false → (page emitted : List ℕ) → IsPlainEmitted c asked.width page emitted
+      → HasAskedText asked names page emitted
+  plain_has plain page emitted has = record {
     setting = c;
     is = is;
     has = plain_look asked.rich _ _ plain (has (λ _ _. tt) (λ h m a given. refl));

@@ -1,11 +1,11 @@
 -- What a loop of writes has written so far.
-use Rattle.std.proofs.Common.{◌≡◌, ℕ, Bool, true, List, [], ◌++◌, Option, refl, sym, ap, subst, ◌∙◌, append_assoc}
-use Rattle.std.proofs.Common.{append-nil, ◌==◌, ◌∷◌, ◌+◌, ◌<◌, suc, length, get_or, drop, drop-cons, add-one, arith}
+use Rattle.std.proofs.Common.{◌≡◌, [], ◌++◌, ◌∙◌, ◌==◌, ◌∷◌, ◌+◌, ◌<◌, Bool, List, Option, add-one, ap, append-nil}
+use Rattle.std.proofs.Common.{append_assoc, arith, drop, drop-cons, get_or, length, refl, subst, suc, sym, true, ℕ}
 use Rattle.std.proofs.lemmas.Bool.Decides.{nat_tests}
 use Rattle.std.specs.Prelude.{Result, Ok, Err, IsErr, OnErr}
 use Rattle.std.specs.Io.KnownBytes.{Appends}
 use Rattle.std.proofs.KnownBytes.{Appends-nil, Appends-trans}
-use Rattle.byte_devices.specs.KnownPart.{AppendsPart}
+use Rattle.lex_base.specs.KnownPart.{AppendsPart}
 
 -- of the bytes a front was written and the rest is left; what had failed still has
 pub record IsWritten (old now : Option (List ℕ)) (bytes rest : List ℕ) (failed_then failed_now : Bool) : Type 0 where

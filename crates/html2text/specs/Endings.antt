@@ -1,13 +1,13 @@
 -- How the calls end that the answer to a request is made of (no promise speaks of it).
 use Rattle.std.specs.Prelude.{◌≡◌, ◌⊎◌, ℕ, ◌≤◌, ◌||◌, Bool, false, true, List, length, Some, IfSome, Result, Ok, Err}
-use Rattle.command_words.specs.CommandWords.{Asked}
+use Rattle.command_line.specs.CommandWords.{Asked}
 use Rattle.html2text.specs.Responses.{Bytes, Files, IsRefusal, IsRefusalBy, IsTableRefusal, ShowsPage, ShowsPart}
 use Rattle.html2text.specs.Written.{Gains, GainsPart}
 use Rattle.html2text.specs.declared.outcome.Outcome.{Outcome}
 use Rattle.html2text.specs.declared.outcome.Outcome.TheVariants as outcomes
 use Rattle.html2text.specs.declared.program.Served.{Served}
-use Rattle.named_files.specs.TableFiles.{fault_text}
-use Rattle.named_files.specs.declared.table_fault.TableFault.{TableFault}
+use Rattle.command_line.specs.TableFiles.{fault_text}
+use Rattle.command_line.specs.declared.table_fault.TableFault.{TableFault}
 use Rattle.page_config.specs.Errors.{error_text}
 use Rattle.page_config.specs.declared.error.Error.{Error}
 use Rattle.page_config.specs.declared.error.Error.TheVariants as errors
@@ -30,20 +30,20 @@ EndsBy IsText Narrow Nothing most bytes read_failed write_failed flushed before 
 
 -- What is asked for was written and passed on, or why it was not, and what was reported of that.
 abbrev pub IsAnswered : Asked → Files → Bytes → (read_failed write_failed flushed : Bool) → (before after : ℕ)
-    → (old new : Bytes) → (Unread Untouched Silent : Type 0) → (Told : List ℕ → Type 0) → Outcome → Type 0
-IsAnswered asked files input read_failed write_failed flushed before after old new Unread Untouched Silent Told
+    → (old new : Bytes) → (Unread Untouched Silent : Type 0) → (Emitted : List ℕ → Type 0) → Outcome → Type 0
+IsAnswered asked files input read_failed write_failed flushed before after old new Unread Untouched Silent Emitted
     outcomes.Done =
     ShowsPage asked files input old new × (write_failed ≡ false) × (flushed ≡ true) × Silent
-IsAnswered asked files input read_failed write_failed flushed before after old new Unread Untouched Silent Told
+IsAnswered asked files input read_failed write_failed flushed before after old new Unread Untouched Silent Emitted
     (outcomes.Page error) =
-    Told (error_text error) × IsRefusal asked files input (read_failed || write_failed) before after error
+    Emitted (error_text error) × IsRefusal asked files input (read_failed || write_failed) before after error
     × (Untouched ⊎ ((write_failed ≡ true) × ShowsPart asked files input old new))
-IsAnswered asked files input read_failed write_failed flushed before after old new Unread Untouched Silent Told
+IsAnswered asked files input read_failed write_failed flushed before after old new Unread Untouched Silent Emitted
     outcomes.NotOpened =
-    Told (error_text errors.IoError) × Untouched × ((name : List ℕ) × (asked.file ≡ Some name))
-IsAnswered asked files input read_failed write_failed flushed before after old new Unread Untouched Silent Told
+    Emitted (error_text errors.IoError) × Untouched × ((name : List ℕ) × (asked.file ≡ Some name))
+IsAnswered asked files input read_failed write_failed flushed before after old new Unread Untouched Silent Emitted
     outcomes.Table =
-    ((fault : TableFault) × Told (fault_text fault) × IsTableRefusal files asked.references fault)
+    ((fault : TableFault) × Emitted (fault_text fault) × IsTableRefusal files asked.references fault)
     × Unread × Untouched
-IsAnswered asked files input read_failed write_failed flushed before after old new Unread Untouched Silent Told
+IsAnswered asked files input read_failed write_failed flushed before after old new Unread Untouched Silent Emitted
     outcomes.Words = ⊥

@@ -1,8 +1,8 @@
 -- The text of lines: what the program writes.
 use Rattle.std.specs.Prelude.{ℕ, List, [], ◌∷◌, ◌++◌, flat_map}
-use Rattle.tagged_lines.specs.Tagged.{element_text, line_elements}
-use Rattle.tagged_lines.specs.declared.tagged_line.TaggedLine.{TaggedLine}
-use Rattle.tagged_lines.specs.declared.tagged_string.TaggedLineElement.{TaggedLineElement}
+use Rattle.text_lines.specs.Tagged.{element_text, line_elements}
+use Rattle.text_lines.specs.declared.tagged_line.TaggedLine.{TaggedLine}
+use Rattle.text_lines.specs.declared.tagged_string.TaggedLineElement.{TaggedLineElement}
 
 -- a newline
 abbrev pub newline : List ℕ

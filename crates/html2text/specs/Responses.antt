@@ -1,21 +1,21 @@
 -- What the program answers to a command line: what its writers gain, and its exit status.
-use Rattle.std.specs.Prelude.{◌≡◌, ℕ, ◌+◌, ◌<◌, ◌⊎◌, Bool, true, List, length}
-use Rattle.std.specs.Prelude.{◌++◌, Option, Some, None, Result, Ok, Err, IfSome, codes, string_bytes, ⊤}
+use Rattle.std.specs.Prelude.{◌≡◌, ◌+◌, ◌<◌, ◌⊎◌, ◌++◌, ⊤, Bool, Err, IfSome, List, None, Ok, Option, Result, Some}
+use Rattle.std.specs.Prelude.{codes, length, string_bytes, true, ℕ}
 use Rattle.std.specs.Io.KnownBytes.{Appends}
-use Rattle.command_words.specs.CommandWords.{Asked, Asks, AsksHelp}
-use Rattle.command_words.specs.Requests.{asked_of}
-use Rattle.command_words.specs.declared.words.Request.{Request}
-use Rattle.command_words.specs.declared.words.WordFault.{WordFault}
-use Rattle.command_words.specs.declared.words.WordFault.TheVariants as faults
-use Rattle.byte_devices.specs.KnownPart.{AppendsPart}
-use Rattle.reference_tables.specs.References.{References, basic}
+use Rattle.command_line.specs.CommandWords.{Asked, Asks, AsksHelp}
+use Rattle.command_line.specs.Requests.{asked_of}
+use Rattle.command_line.specs.declared.words.Request.{Request}
+use Rattle.command_line.specs.declared.words.WordFault.{WordFault}
+use Rattle.command_line.specs.declared.words.WordFault.TheVariants as faults
+use Rattle.lex_base.specs.KnownPart.{AppendsPart}
+use Rattle.lex_base.specs.References.{References, basic}
 use Rattle.html2text.specs.LinesText.{newline}
 use Rattle.html2text.specs.Written.{IsOtherPage, IsTooNarrowPage, WritesPage, WritesPart, most_bytes}
 use Rattle.html2text.specs.declared.outcome.Outcome.{Outcome}
 use Rattle.html2text.specs.declared.outcome.Outcome.TheVariants as outcomes
-use Rattle.named_files.specs.TableFiles.{IsNoTable, IsTableText}
-use Rattle.named_files.specs.declared.table_fault.TableFault.{TableFault}
-use Rattle.named_files.specs.declared.table_fault.TableFault.TheVariants as table_faults
+use Rattle.command_line.specs.TableFiles.{IsNoTable, IsTableText}
+use Rattle.command_line.specs.declared.table_fault.TableFault.{TableFault}
+use Rattle.command_line.specs.declared.table_fault.TableFault.TheVariants as table_faults
 use Rattle.page_config.specs.declared.error.Error.{Error}
 use Rattle.page_config.specs.declared.error.Error.TheVariants as errors
 
@@ -32,12 +32,12 @@ abbrev pub complaint : List ℕ → List ℕ
 complaint text = codes "html2text: " ++ (text ++ newline)
 
 -- known bytes grow by these, or by a beginning of them where their writer has failed
-abbrev pub Tells : Bool → Bytes → Bytes → List ℕ → Type 0
-Tells failed old new bytes = Appends old new bytes ⊎ ((failed ≡ true) × AppendsPart old new bytes)
+abbrev pub Emits : Bool → Bytes → Bytes → List ℕ → Type 0
+Emits failed old new bytes = Appends old new bytes ⊎ ((failed ≡ true) × AppendsPart old new bytes)
 
 -- the same, of a fault with this text
 abbrev pub Complains : Bool → Bytes → Bytes → List ℕ → Type 0
-Complains failed old new text = Tells failed old new (complaint text)
+Complains failed old new text = Emits failed old new (complaint text)
 
 -- The page is that of the file that is named, or of standard input.
 abbrev pub page_bytes : Files → Bytes → Option (List ℕ) → Bytes

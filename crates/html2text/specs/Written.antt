@@ -1,18 +1,18 @@
 -- What a writer has of a page.
-use Rattle.std.specs.Prelude.{◌≡◌, ℕ, ◌≤◌, Bool, true, false, not, ◌&&◌, ◌||◌, List, [], Option}
-use Rattle.std.specs.Prelude.{chars, if◌then◌else◌, length, map, unwrap_or}
+use Rattle.std.specs.Prelude.{◌≡◌, ◌≤◌, ◌&&◌, ◌||◌, [], if◌then◌else◌, Bool, List, Option, chars, false, length, map}
+use Rattle.std.specs.Prelude.{not, true, unwrap_or, ℕ}
 use Rattle.std.specs.Io.KnownBytes.{Appends}
 use Rattle.std.specs.Str.{IsUtf8}
-use Rattle.command_words.specs.CommandWords.{Asked}
-use Rattle.byte_devices.specs.KnownPart.{AppendsPart}
-use Rattle.reference_tables.specs.References.{References}
-use Rattle.page_config.specs.PlainText.{plain_closes, plain_marking}
-use Rattle.page_config.specs.Defaults.{default_parse}
+use Rattle.command_line.specs.CommandWords.{Asked}
+use Rattle.lex_base.specs.KnownPart.{AppendsPart}
+use Rattle.lex_base.specs.References.{References}
+use Rattle.html_render_tree.specs.PlainText.{plain_closes, plain_marking}
+use Rattle.html_tree_builder.specs.Defaults.{default_parse}
 use Rattle.page_config.specs.PageAnswers.{HasAnswer, HasText, fail, too_narrow}
 use Rattle.page_config.specs.RichPages.{HasRichAnswer, HasRichText}
 use Rattle.page_config.specs.Settings.{PageSetting}
 use Rattle.render_conversion.specs.Decorating.{SeenRule, decorating_rules, seen_rule}
-use Rattle.renderer_calls.specs.Defaults.{default_options}
+use Rattle.block_trait.specs.Defaults.{default_options}
 
 -- known bytes grow by a text of this kind, in UTF-8
 pub record Gains (IsText : List ℕ → Type 0) (old new : Option (List ℕ)) : Type 0 where

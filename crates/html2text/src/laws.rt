@@ -1,9 +1,9 @@
 //! Laws of what the program writes.
 ghost use Rattle.std.specs.Prelude.{◌≡◌, ◌≤◌, ℕ, List};
-ghost use Rattle.command_words.specs.CommandWords.{Asked};
+ghost use Rattle.command_line.specs.CommandWords.{Asked};
 ghost use Rattle.html2text.specs.Written.{HasAskedText, IsOtherPage, IsTooNarrowPage};
-ghost use Rattle.page_config.specs.PageLaws.{IsTextWithin};
-ghost use Rattle.reference_tables.specs.References.{References};
+ghost use Rattle.html_render_tree.specs.PageLaws.{IsTextWithin};
+ghost use Rattle.lex_base.specs.References.{References};
 
 use page_config::{a_page_has_one_answer, a_page_has_one_text, a_text_keeps_its_width};
 use text_decorators::{PlainDecorator, RichDecorator};

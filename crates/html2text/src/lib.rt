@@ -1,5 +1,5 @@
 //! The program `html2text`: what it writes of a page, what it answers to the words of its command line, and how it
-//! ends; with the libraries that it stands on, `page_config`, `command_words` and `named_files`, and with articles.
+//! ends; with the libraries that it stands on, `page_config`, `command_line` and `command_line`, and with articles.
 //!
 //! # What is proved
 //!
@@ -32,9 +32,9 @@
 //! whose lines were worked out by hand. That it hands on standard input and standard error, and ends with another
 //! status than 0 where `respond` gives one, is shown by `tools/command_lines.sh` alone, which is run by hand; that
 //! `respond` answers 1 for a page that is too narrow, with one text on its errors and nothing written, is tested
-//! (page_rows). What `serve` gives is a `Served`, which nothing else makes, so a `main` that answers one ends with
-//! no other status. `mail_page` shows the library called by another program: a page is read once and laid out by
-//! two configurations.
+//! (test_pages). What `serve` gives is a `Served`, which nothing else makes, so a `main` that answers one ends with
+//! no other status. `example_mail_page` shows the library called by another program: a page is read once and laid out
+//! by two configurations.
 #![tactic(auto)]
 
 mod laws;
@@ -44,39 +44,39 @@ mod response;
 mod showing;
 mod writing;
 
-pub use article_answers::{ArticleLine, LayArticle};
+pub use article_answers::LayArticle;
+pub use article_layout::ArticleLine;
 pub use article_values::{Article, ArticleError, Block, Inline};
 pub use article_writing::{SerializableArticle, WriteArticle};
-pub use command_words::{Request, WordFault, read_words, request_of};
+pub use block_trait::{ImageRenderMode, RenderOptions};
+pub use command_line::{
+    FileOpener, HostFiles, OpenedFile, Request, TableFault, WordFault, read_words, request_of,
+};
+pub use dom_styles::{Display, Importance, Style, StyleDecl, StyleOrigin, StylePlace, StyleRule};
 pub use html_lexemes::{
     ByteReader, ByteWriter, Device, DeviceFault, LocalName, ParseFault, ReferenceTable, TableError,
     states,
 };
 pub use html_render_dom::RcDom;
-pub use html_tree_builder::html_tree_state::QuirksMode;
-pub use html_tree_builder::{TokenizerOpts, TreeBuilderOpts};
+pub use html_render_tree::RenderTree;
+pub use html_tree_builder::{ParseOpts, TokenizerOpts, TreeBuilderOpts};
+pub use html_tree_state::QuirksMode;
 pub use laws::{a_page_is_written_in_one_way, what_is_written_keeps_its_width};
-pub use named_files::{FileOpener, HostFiles, OpenedFile, TableFault};
 pub use outcome::{Outcome, exit_status};
 pub use page_config::{
-    Config, Error, Page, ParseOpts, PlainLine, RenderTree, RichLine, a_page_has_an_answer,
-    a_page_has_one_answer, a_page_has_one_plain_answer, a_page_has_one_plain_text,
-    a_page_has_one_text, a_page_keeps_its_width, a_page_with_room_is_never_too_narrow,
-    a_plain_text_keeps_its_width, a_text_keeps_its_width, from_read, from_read_rich,
-    from_read_with_decorator, parse,
+    Config, Error, Page, PlainLine, RichLine, a_page_has_an_answer, a_page_has_one_answer,
+    a_page_has_one_plain_answer, a_page_has_one_plain_text, a_page_has_one_text,
+    a_page_keeps_its_width, a_page_with_room_is_never_too_narrow, a_plain_text_keeps_its_width,
+    a_text_keeps_its_width, from_read, from_read_rich, from_read_with_decorator, parse,
 };
+pub use page_decoding::Utf8LossyDecoder;
 pub use page_laws;
 pub use program::{Served, serve};
-pub use renderer_calls::{ImageRenderMode, RenderOptions};
 pub use response::{carry_out, respond};
-pub use style_cascade::{
-    Display, Importance, Style, StyleDecl, StyleOrigin, StylePlace, StyleRule,
-};
-pub use tagged_lines::{Columns, TaggedLine, TaggedLineElement, TaggedString, UnicodeColumns};
 pub use text_decorators::{
-    PlainDecorator, RichAnnotation, RichDecorator, TrivialDecorator, footnotes,
+    Colour, PlainDecorator, RichAnnotation, RichDecorator, SteadyPrefixes, TextDecorator,
+    TrivialDecorator, footnotes,
 };
-pub use text_marks::{Colour, SteadyPrefixes, TextDecorator};
+pub use text_lines::{Columns, TaggedLine, TaggedLineElement, TaggedString, UnicodeColumns};
 pub use text_pieces::{TooNarrow, WhiteSpace};
-pub use utf8_decoding::Utf8LossyDecoder;
 pub use writing::run;

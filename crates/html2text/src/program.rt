@@ -4,8 +4,8 @@ ghost use Rattle.std.specs.Prelude.{◌≡◌, ◌⊎◌};
 ghost use Rattle.html2text.specs.Endings.{ending};
 
 use crate::response::respond;
+use command_line::HostFiles;
 use html_lexemes::Device;
-use named_files::HostFiles;
 use std::io::{BufWriter, Eprint};
 use std::process::{ExitCode, Termination};
 use std::rt::Env;

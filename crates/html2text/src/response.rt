@@ -1,26 +1,25 @@
 //! What the program answers to a command line: which text goes where, and its exit status.
 
-ghost use Rattle.std.specs.Prelude.{◌≡◌, ℕ, ◌⊎◌, ◌||◌, List, Option, true};
-ghost use Rattle.std.specs.Prelude.{false, Err, IfErr, IfOk, IsOk, OnErr, OnOk, map, string_bytes, Some};
+ghost use Rattle.std.specs.Prelude.{◌≡◌, ◌⊎◌, ◌||◌, Err, IfErr, IfOk, IsOk, List, OnErr, OnOk, Option, Some, false};
+ghost use Rattle.std.specs.Prelude.{map, string_bytes, true, ℕ};
 ghost use Rattle.std.specs.Io.KnownBytes.{Appends};
-ghost use Rattle.command_words.specs.CommandWords.{words_behind_name};
-ghost use Rattle.command_words.specs.FaultTexts.{fault_text};
-ghost use Rattle.command_words.specs.Requests.{asked_of};
-ghost use Rattle.command_words.specs.WordFaults.{IsRefusedWith};
-ghost use Rattle.byte_devices.specs.KnownPart.{AppendsPart};
+ghost use Rattle.command_line.specs.CommandWords.{words_after_name};
+ghost use Rattle.command_line.specs.FaultTexts.{fault_text};
+ghost use Rattle.command_line.specs.Requests.{asked_of};
+ghost use Rattle.command_line.specs.WordFaults.{IsRefusedWith};
+ghost use Rattle.lex_base.specs.KnownPart.{AppendsPart};
 ghost use Rattle.html2text.specs.Endings.{IsAnswered};
 ghost use Rattle.html2text.specs.Responses.{Complains, IsAskedRefusal, IsAskedTableRefusal, IsOutcomeOf, IsRefusal};
 ghost use Rattle.html2text.specs.Responses.{IsTableOf, IsTableRefusal, WritesAnswer, WritesAnswerPart, WritesAsked};
 ghost use Rattle.html2text.specs.Responses.{WritesAskedPart, complaint};
-ghost use Rattle.named_files.specs.TableFiles.{fault_text as table_text};
+ghost use Rattle.command_line.specs.TableFiles.{fault_text as table_text};
 ghost use Rattle.page_config.specs.Errors.{error_text};
 
 use crate::outcome::{Outcome, exit_status};
 use crate::showing::write_page;
 use crate::writing::write_all;
-use command_words::{Request, WordFault, request_of};
+use command_line::{FileOpener, Request, TableFault, WordFault, request_of, table_in_file};
 use html_lexemes::{ByteReader, ByteWriter, DeviceFault, ReferenceTable};
-use named_files::{FileOpener, TableFault, table_in_file};
 use page_config::Error;
 use std::alloc::Global;
 use std::io;
@@ -41,7 +40,7 @@ pub fn respond<F: FileOpener, R: ByteReader, W: ByteWriter, E: ByteWriter>(
     ensures statuses { (result ≡ 0) ⊎ (result ≡ 1) ⊎ (result ≡ 2) ⊎ (result ≡ 3) }
 
     // All that was asked for was written and passed on, and nothing is wrong.
-    ensures done { result ≡ 0 → IfOk words (λ all. WritesAsked (words_behind_name (map string_bytes all.items))
+    ensures done { result ≡ 0 → IfOk words (λ all. WritesAsked (words_after_name (map string_bytes all.items))
         (F.bytes_of files.now) (R.remaining input.old) (W.contents output.old) (W.contents output.new)) }
     ensures had { result ≡ 0 → IsOk words }
     ensures passed_on { result ≡ 0 → (W.has_failed output.new ≡ false) × (W.was_flushed output.new ≡ true) }
@@ -50,12 +49,12 @@ pub fn respond<F: FileOpener, R: ByteReader, W: ByteWriter, E: ByteWriter>(
     // The page was refused or its file not opened, or a device failed: for this error, which is reported.
     ensures refused { result ≡ 1 → (error : Error)
         × Complains (E.has_failed errors.new) (E.contents errors.old) (E.contents errors.new) (error_text error)
-        × IfOk words (λ all. IsAskedRefusal (words_behind_name (map string_bytes all.items)) (F.bytes_of files.now)
+        × IfOk words (λ all. IsAskedRefusal (words_after_name (map string_bytes all.items)) (F.bytes_of files.now)
         (R.remaining input.old) (R.has_failed input.new || W.has_failed output.new) (W.has_failed output.new)
         (R.count input.old) (R.count input.new) error) }
     ensures read { result ≡ 1 → IsOk words }
     ensures unwritten { result ≡ 1 → (output.new ≡ output.old) ⊎ ((W.has_failed output.new ≡ true)
-        × IfOk words (λ all. WritesAskedPart (words_behind_name (map string_bytes all.items)) (F.bytes_of files.now)
+        × IfOk words (λ all. WritesAskedPart (words_after_name (map string_bytes all.items)) (F.bytes_of files.now)
         (R.remaining input.old) (W.contents output.old) (W.contents output.new))) }
 
     // The words were refused: for this fault, which is reported; nothing was read and nothing written.
@@ -67,7 +66,7 @@ pub fn respond<F: FileOpener, R: ByteReader, W: ByteWriter, E: ByteWriter>(
     // There was no table: for this fault, which is reported; no page was read and nothing written.
     ensures table { result ≡ 3 → (fault : TableFault)
         × Complains (E.has_failed errors.new) (E.contents errors.old) (E.contents errors.new) (table_text fault)
-        × IfOk words (λ all. IsAskedTableRefusal (words_behind_name (map string_bytes all.items))
+        × IfOk words (λ all. IsAskedTableRefusal (words_after_name (map string_bytes all.items))
         (F.bytes_of files.now) fault) }
     ensures tabled { result ≡ 3 → IsOk words }
     ensures tableless { result ≡ 3 → (input.new ≡ input.old) × (output.new ≡ output.old) }
@@ -96,7 +95,7 @@ pub fn carry_out<F: FileOpener, R: ByteReader, W: ByteWriter, E: ByteWriter>(
     ensures silent { result ≡ Outcome.Done → errors.new ≡ errors.old }
 
     // The page was refused for this error, or a device failed.
-    ensures told { (error : Error) → result ≡ Outcome.Page error
+    ensures emitted { (error : Error) → result ≡ Outcome.Page error
         → Complains (E.has_failed errors.new) (E.contents errors.old) (E.contents errors.new) (error_text error) }
     ensures reason { (error : Error) → result ≡ Outcome.Page error → IfOk request (λ asked.
         IsRefusal (asked_of asked) (F.bytes_of files.now) (R.remaining input.old)
@@ -127,7 +126,7 @@ pub fn carry_out<F: FileOpener, R: ByteReader, W: ByteWriter, E: ByteWriter>(
 {
     match request {
         Ok(request) => answer(alloc, &request, files, input, output, errors),
-        Err(fault) => tell_fault(&fault, output, errors),
+        Err(fault) => emit_fault(&fault, output, errors),
     }
 }
 
@@ -196,10 +195,10 @@ fn show_page<F: FileOpener, R: ByteReader, W: ByteWriter, E: ByteWriter>(
     }
 }
 
-/// Tells why a page was refused.
+/// Emits why a page was refused.
 fn refuse<E: ByteWriter>(errors: &mut E, error: Error) -> Outcome
     ensures outcome { result ≡ Outcome.Page error }
-    ensures told { Complains (E.has_failed errors.new) (E.contents errors.old) (E.contents errors.new)
+    ensures emitted { Complains (E.has_failed errors.new) (E.contents errors.old) (E.contents errors.new)
         (error_text error) }
 {
     complain(errors, error.text());
@@ -207,7 +206,7 @@ fn refuse<E: ByteWriter>(errors: &mut E, error: Error) -> Outcome
 }
 
 /// Writes the help that was asked for, or says what is wrong with the words.
-fn tell_fault<W: ByteWriter, E: ByteWriter>(
+fn emit_fault<W: ByteWriter, E: ByteWriter>(
     fault: &WordFault,
     output: &mut W,
     errors: &mut E,
@@ -217,7 +216,7 @@ fn tell_fault<W: ByteWriter, E: ByteWriter>(
         → WritesAnswer (Err fault.now) files bytes (W.contents output.old) (W.contents output.new) }
     ensures passed_on { result ≡ Outcome.Done → (W.has_failed output.new ≡ false) × (W.was_flushed output.new ≡ true) }
     ensures silent { result ≡ Outcome.Done → errors.new ≡ errors.old }
-    ensures told { (error : Error) → result ≡ Outcome.Page error
+    ensures emitted { (error : Error) → result ≡ Outcome.Page error
         → Complains (E.has_failed errors.new) (E.contents errors.old) (E.contents errors.new) (error_text error) }
     ensures unwritten { (error : Error) (files : List ℕ → Option (List ℕ)) (bytes : Option (List ℕ))
         → result ≡ Outcome.Page error → (W.has_failed output.new ≡ true)
@@ -241,7 +240,7 @@ fn show_help<W: ByteWriter, E: ByteWriter>(text: &str, output: &mut W, errors: &
     ensures done { result ≡ Outcome.Done → Appends (W.contents output.old) (W.contents output.new) text.now }
     ensures passed_on { result ≡ Outcome.Done → (W.has_failed output.new ≡ false) × (W.was_flushed output.new ≡ true) }
     ensures silent { result ≡ Outcome.Done → errors.new ≡ errors.old }
-    ensures told { (error : Error) → result ≡ Outcome.Page error
+    ensures emitted { (error : Error) → result ≡ Outcome.Page error
         → Complains (E.has_failed errors.new) (E.contents errors.old) (E.contents errors.new) (error_text error) }
     ensures unwritten { (error : Error) → result ≡ Outcome.Page error → (W.has_failed output.new ≡ true)
         × AppendsPart (W.contents output.old) (W.contents output.new) text.now }
@@ -266,7 +265,7 @@ fn write_through<W: ByteWriter>(output: &mut W, bytes: &[u8]) -> Result<(), Devi
     output.flush()
 }
 
-/// Tells what is wrong.
+/// Emits what is wrong.
 fn complain<E: ByteWriter>(errors: &mut E, text: &str)
     ensures { Complains (E.has_failed errors.new) (E.contents errors.old) (E.contents errors.new) text.now }
 {

@@ -1,18 +1,18 @@
 //! A page as a request asks for it.
 
 ghost use Rattle.std.specs.Prelude.{◌≡◌, true, false};
-ghost use Rattle.command_words.specs.Requests.{asked_of};
+ghost use Rattle.command_line.specs.Requests.{asked_of};
 ghost use Rattle.html2text.specs.Endings.{EndsBy};
 ghost use Rattle.html2text.specs.Written.{HasAskedText, IsOtherPage, IsTooNarrowPage, most_bytes};
-ghost use Rattle.page_config.specs.PageAnswers.{Answers, IsTold, fail, too_narrow};
+ghost use Rattle.page_config.specs.PageAnswers.{Answers, IsEmitted, fail, too_narrow};
 ghost use Rattle.page_config.specs.Settings.{max_bytes_of, page_setting};
 
 use crate::writing::run;
-use command_words::Request;
+use command_line::Request;
 use html_lexemes::{ByteReader, ByteWriter, ReferenceTable};
 use page_config::{Config, Error};
 use std::alloc::Global;
-use text_marks::TextDecorator;
+use text_decorators::TextDecorator;
 
 /// Writes the text of the page that a device gives, as a request asks for it, and passes it on.
 pub(crate) fn write_page<R: ByteReader, W: ByteWriter>(
@@ -106,7 +106,7 @@ fn write_by<R: ByteReader, W: ByteWriter, D: TextDecorator + Drop>(
     config: Config<D>,
     width: usize,
 ) -> Result<(), Error>
-    ensures { EndsBy (IsTold D.Annotation.seen D.view (page_setting D.view config) width)
+    ensures { EndsBy (IsEmitted D.Annotation.seen D.view (page_setting D.view config) width)
         (λ bytes. Answers D.Annotation.seen D.view (page_setting D.view config) width bytes too_narrow)
         (λ bytes. Answers D.Annotation.seen D.view (page_setting D.view config) width bytes fail) (max_bytes_of config)
         (R.remaining input.old) (R.has_failed input.new) (W.has_failed output.new) (W.was_flushed output.new)

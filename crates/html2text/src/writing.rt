@@ -1,21 +1,21 @@
 //! A page's text, written.
 ghost use Rattle.std.specs.Prelude.{◌≡◌, ◌+◌, ◌<◌, ◌≤◌, ◌⊎◌, true, false, length, Err, IfSome, OnErr, OnOk};
 ghost use Rattle.std.specs.Io.KnownBytes.{Appends, IsAtEnd};
-ghost use Rattle.byte_devices.specs.KnownPart.{AppendsPart};
+ghost use Rattle.lex_base.specs.KnownPart.{AppendsPart};
 ghost use Rattle.html2text.specs.Written.{Gains, GainsPart};
 ghost use Rattle.html2text.specs.LinesText.{line_bytes, lines_bytes};
 ghost use Rattle.page_config.specs.Errors.{IsAnswer};
-ghost use Rattle.page_config.specs.PageAnswers.{Answers, IsTold, fail, too_narrow};
-ghost use Rattle.page_config.specs.PageLaws.{IsTextWithin};
+ghost use Rattle.page_config.specs.PageAnswers.{Answers, IsEmitted, fail, too_narrow};
+ghost use Rattle.html_render_tree.specs.PageLaws.{IsTextWithin};
 ghost use Rattle.page_config.specs.Settings.{max_bytes_of, page_setting};
 ghost use Rattle.block_renderer.specs.Seen.{IsTagging};
-ghost use Rattle.text_marks.specs.Marks.{IsSteady};
+ghost use Rattle.text_decorators.specs.Marks.{IsSteady};
 
 use html_lexemes::{ByteReader, ByteWriter, DeviceFault};
 use page_config::{Config, Error, a_text_keeps_its_width};
 use std::alloc::Global;
-use tagged_lines::TaggedLine;
-use text_marks::TextDecorator;
+use text_decorators::TextDecorator;
+use text_lines::TaggedLine;
 
 /// Reads a page, and writes the text of its lines, each with a newline. Nothing is written before the
 /// layout has succeeded. No line passes the width, in columns, where no part of a page may (`within`). It doesn't flush
@@ -39,7 +39,7 @@ pub fn run<R: ByteReader, W: ByteWriter, D: TextDecorator + Drop>(
 
     // What was read is written as its lines' text.
     ensures written { OnOk result (IfSome (R.remaining reader.old)
-        (λ bytes. Gains (IsTold D.Annotation.seen D.view (page_setting D.view config) width bytes)
+        (λ bytes. Gains (IsEmitted D.Annotation.seen D.view (page_setting D.view config) width bytes)
         (W.contents writer.old) (W.contents writer.new))) }
     ensures narrow { result ≡ Err Error.TooNarrow → IfSome (R.remaining reader.old) (λ bytes. Answers D.Annotation.seen
         D.view (page_setting D.view config) width bytes too_narrow) }
@@ -55,7 +55,7 @@ pub fn run<R: ByteReader, W: ByteWriter, D: TextDecorator + Drop>(
     // Only a fault of the writer leaves anything written: a beginning of that text.
     ensures unwritten { OnErr result ((writer.new ≡ writer.old) ⊎ ((result ≡ Err Error.IoError)
         × (W.has_failed writer.new ≡ true) × IfSome (R.remaining reader.old)
-        (λ bytes. GainsPart (IsTold D.Annotation.seen D.view (page_setting D.view config) width bytes)
+        (λ bytes. GainsPart (IsEmitted D.Annotation.seen D.view (page_setting D.view config) width bytes)
         (W.contents writer.old) (W.contents writer.new)))) }
 {
     a_text_keeps_its_width::<D>();

@@ -1,12 +1,12 @@
 -- What bytes say of a text's characters: where the first one of a set stands, and how many there are.
-use Rattle.std.proofs.Common.{◌≡◌, ℕ, ◌+◌, ◌<◌, ◌≤◌, Bool, true, false, cond, ◌||◌, List, [], ◌∷◌, ◌++◌, length, take}
-use Rattle.std.proofs.Common.{eqb, Some, IsUtf8, chars, inl, inr, refl, sym, ap, subst, ◌∙◌, arith, slice_get}
-use Rattle.std.proofs.Common.{slice_index, encode_utf8, encode_utf8_all, get_or, set as written, replicate}
+use Rattle.std.proofs.Common.{◌≡◌, ◌+◌, ◌<◌, ◌≤◌, ◌||◌, [], ◌∷◌, ◌++◌, ◌∙◌, Bool, IsUtf8, List, Some, ap, arith, chars}
+use Rattle.std.proofs.Common.{cond, encode_utf8, encode_utf8_all, eqb, false, get_or, inl, inr, length, refl, replicate}
+use Rattle.std.proofs.Common.{set as written, slice_get, slice_index, subst, sym, take, true, ℕ}
 use Rattle.std.proofs.lemmas.Bool.{both_ways, cases_Bool, cases_lt, eqb-true, eqb-false}
 use Rattle.std.proofs.lemmas.Bool.Decides.{nat_tests}
 use Rattle.std.proofs.lemmas.Grind.{get_or-set_at}
-use Rattle.std.proofs.lemmas.List.{length-take-le, get_or-take, get_or-append-add, get_or-replicate, get_or_past}
-use Rattle.std.proofs.lemmas.List.{get_or-set_other, length-replicate, length-set, length-append, nil_from_length}
+use Rattle.std.proofs.lemmas.List.{get_or-append-add, get_or-replicate, get_or-set_other, get_or-take, get_or_past}
+use Rattle.std.proofs.lemmas.List.{length-append, length-replicate, length-set, length-take-le, nil_from_length}
 use Rattle.std.proofs.lemmas.List.Folds.{list_any_more}
 use Rattle.std.proofs.lemmas.List.Sums.{sum_by-append}
 use Rattle.std.proofs.lemmas.Option.{none-some}

@@ -1,8 +1,7 @@
 -- How what is left and a pattern are compared, character by character.
-use Rattle.std.proofs.Common.{◌≡◌, ℕ, suc, ◌+◌, ◌<◌, ◌≤◌, Bool, true, false, List, [], ◌∷◌, ◌++◌, length, drop}
-use Rattle.std.proofs.Common.{All, IsUtf8}
-use Rattle.std.proofs.Common.{String, string_bytes, chars, refl, sym, ap, subst, ◌∙◌, append_assoc, append-nil}
-use Rattle.std.proofs.Common.{encode_utf8, slice_index_or, arith}
+use Rattle.std.proofs.Common.{◌≡◌, ◌+◌, ◌<◌, ◌≤◌, [], ◌∷◌, ◌++◌, ◌∙◌, All, Bool, IsUtf8, List, String, ap, append-nil}
+use Rattle.std.proofs.Common.{append_assoc, arith, chars, drop, encode_utf8, false, length, refl, slice_index_or}
+use Rattle.std.proofs.Common.{string_bytes, subst, suc, sym, true, ℕ}
 use Rattle.std.proofs.lemmas.List.{drop_all, drop_more, nil_from_length}
 use Rattle.std.proofs.lemmas.Str.{IsUtf8-past_char, IsUtf8-string_bytes, chars-nil, chars_past_char}
 use Rattle.html_lexemes.specs.Queue.{IsAlike, EndsInside, Differs}

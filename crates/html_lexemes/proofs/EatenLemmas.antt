@@ -1,7 +1,7 @@
 -- A text that begins with a pattern is taken, character by character.
-use Rattle.std.proofs.Common.{◌≡◌, ℕ, ◌+◌, ◌^◌, ◌<◌, List, [], ◌∷◌, ◌++◌, length, take, Option, Some, None}
-use Rattle.std.proofs.Common.{IsUtf8, Bool, true, chars, refl, sym, ap, subst, ◌∙◌, arith, append_assoc, append-nil}
-use Rattle.std.proofs.Common.{encode_utf8, length-append, MatchOption}
+use Rattle.std.proofs.Common.{◌≡◌, ◌+◌, ◌^◌, ◌<◌, [], ◌∷◌, ◌++◌, ◌∙◌, Bool, IsUtf8, List, MatchOption, None, Option}
+use Rattle.std.proofs.Common.{Some, ap, append-nil, append_assoc, arith, chars, encode_utf8, length, length-append}
+use Rattle.std.proofs.Common.{refl, subst, sym, take, true, ℕ}
 use Rattle.std.proofs.lemmas.List.{nil_from_length, take_at}
 use Rattle.std.proofs.lemmas.Str.{IsUtf8-past_char, chars-nil, chars_past_char}
 use Rattle.html_lexemes.specs.Queue.{IsAlike, Eaten, Queue, Takes}

@@ -7,4 +7,4 @@ pub mod QueueLemmas
 pub mod RunLemmas
 pub mod SameAttributes
 pub mod WaitingLemmas
-pub use Rattle.reference_tables.proofs.NameTests
+pub use Rattle.lex_base.proofs.NameTests

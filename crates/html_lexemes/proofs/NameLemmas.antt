@@ -1,8 +1,8 @@
 -- A name is held in one way alone.
 use Rattle.std.proofs.Common.{◌≡◌, ℕ, List, Option, None, Some, refl, ap}
-use Rattle.known_names.specs.declared.known.KnownName.{KnownName}
-use Rattle.known_names.specs.Known.{known_at, known_text}
-use Rattle.known_names.proofs.KnownLemmas.{known_back}
+use Rattle.lex_base.specs.declared.known.KnownName.{KnownName}
+use Rattle.lex_base.specs.Known.{known_at, known_text}
+use Rattle.lex_base.proofs.KnownLemmas.{known_back}
 use Rattle.html_lexemes.specs.declared.names.Name.TheVariants.{Known, Other}
 use Rattle.html_lexemes.specs.Names.{name_at, name_of}
 

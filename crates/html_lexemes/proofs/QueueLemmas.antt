@@ -1,14 +1,12 @@
 -- What calls on the bytes of a text say of a queue's characters.
-use Rattle.std.proofs.Common.{◌≡◌, ℕ, ◌+◌, ◌-◌, ◌^◌, ◌<◌, ◌≤◌, min, IsTrue, List, [], ◌∷◌}
-use Rattle.std.proofs.Common.{◌++◌, length, take, drop, eqb, Some, IsUtf8, chars, refl}
-use Rattle.std.proofs.Common.{sym, ap, ◌∙◌, arith, length-drop, append_assoc, encode_utf8}
-use Rattle.std.proofs.Common.{encode_utf8_all, slice_get, String, string_bytes}
+use Rattle.std.proofs.Common.{◌≡◌, ◌+◌, ◌-◌, ◌^◌, ◌<◌, ◌≤◌, [], ◌∷◌, ◌++◌, ◌∙◌, IsTrue, IsUtf8, List, Some, String, ap}
+use Rattle.std.proofs.Common.{append_assoc, arith, chars, drop, encode_utf8, encode_utf8_all, eqb, length, length-drop}
+use Rattle.std.proofs.Common.{min, refl, slice_get, string_bytes, sym, take, ℕ}
 use Rattle.std.proofs.lemmas.Bool.{eqb-true, eq-eqb}
 use Rattle.std.proofs.lemmas.List.{take-append-drop, drop_all, drop_at, drop-drop, length-take-le}
 use Rattle.std.proofs.lemmas.Option.{none-some, same_Some}
-use Rattle.std.proofs.lemmas.Str.{chars-append, chars-nil, chars_past_char, encodes-chars, drop_past_char}
-use Rattle.std.proofs.lemmas.Str.{IsUtf8-drop, IsUtf8-take}
-use Rattle.std.proofs.lemmas.Str.{IsCharBoundary-past_char}
+use Rattle.std.proofs.lemmas.Str.{IsCharBoundary-past_char, IsUtf8-drop, IsUtf8-take, chars-append, chars-nil}
+use Rattle.std.proofs.lemmas.Str.{chars_past_char, drop_past_char, encodes-chars}
 use Rattle.std.specs.Char.{len_utf8}
 use Rattle.std.specs.Str.{IsCharBoundary}
 use Rattle.std.specs.String.{string_len}

@@ -1,7 +1,7 @@
 -- What the search for the first character of a set says of the run before it.
-use Rattle.std.proofs.Common.{◌≡◌, ℕ, Bool, true, false, ◌||◌, IsTrue, List, [], ◌∷◌, ◌++◌, length, take, drop, eqb}
-use Rattle.std.proofs.Common.{Option, Some, None, MatchOption, unwrap_or, IsUtf8, chars, refl, sym, ap, subst, ◌∙◌}
-use Rattle.std.proofs.Common.{arith, slice_get, encode_utf8}
+use Rattle.std.proofs.Common.{◌≡◌, ◌||◌, [], ◌∷◌, ◌++◌, ◌∙◌, Bool, IsTrue, IsUtf8, List, MatchOption, None, Option}
+use Rattle.std.proofs.Common.{Some, ap, arith, chars, drop, encode_utf8, eqb, false, length, refl, slice_get, subst}
+use Rattle.std.proofs.Common.{sym, take, true, unwrap_or, ℕ}
 use Rattle.std.proofs.lemmas.Bool.{both_ways}
 use Rattle.std.proofs.lemmas.Bool.Decides.{nat_tests}
 use Rattle.std.proofs.lemmas.List.{length-take-le, take_all, nil_from_length}

@@ -1,7 +1,7 @@
 -- What is left of a text and the texts that wait after it, as one.
-use Rattle.std.proofs.Common.{◌≡◌, ℕ, ◌+◌, ◌-◌, ◌^◌, ◌<◌, min, Bool, true, false, cond, eqb, List, [], ◌∷◌, ◌++◌}
-use Rattle.std.proofs.Common.{length, All, Result, Ok, Err, OnOk, OnErr, String, string_bytes, chars}
-use Rattle.std.proofs.Common.{slice_get, refl, sym, ap, subst, ◌∙◌, arith, append-nil, append_assoc}
+use Rattle.std.proofs.Common.{◌≡◌, ◌+◌, ◌-◌, ◌^◌, ◌<◌, [], ◌∷◌, ◌++◌, ◌∙◌, All, Bool, Err, List, Ok, OnErr, OnOk}
+use Rattle.std.proofs.Common.{Result, String, ap, append-nil, append_assoc, arith, chars, cond, eqb, false, length, min}
+use Rattle.std.proofs.Common.{refl, slice_get, string_bytes, subst, sym, true, ℕ}
 use Rattle.std.proofs.lemmas.List.Elements.{All-head, All-rest, All-push}
 use Rattle.std.proofs.lemmas.Bool.{both_ways, eq-eqb, eqb-true}
 use Rattle.std.proofs.lemmas.List.{nil_from_length}
@@ -20,9 +20,9 @@ pub none_first : (first more : List ℕ) → first ++ more ≡ [] → first ≡ 
 none_first [] more e = refl
 none_first (c ∷ cs) more e = absurd (omega (arith, ap length e))
 
-none_behind : (front first : List ℕ) → front ++ first ≡ [] → first ≡ []
-none_behind [] first e = e
-none_behind (c ∷ cs) first e = absurd (omega (arith, ap length e))
+none_after : (front first : List ℕ) → front ++ first ≡ [] → first ≡ []
+none_after [] first e = e
+none_after (c ∷ cs) first e = absurd (omega (arith, ap length e))
 
 -- the first character of what is left is that of the first text
 pub first_of_first : {Z : Type 0} (first : List ℕ) (later : List (String Z)) → IsWaiting first later →
@@ -70,7 +70,7 @@ pub put_waits : {Z T E : Type 0} (r : Result T E) (first new text : List ℕ) (l
     IsWaiting first later → OnOk r (new ≡ text ++ first) → OnErr r (new ≡ first) → IsWaiting new later
 put_waits (Ok _) first new text later w e f = record {
   filled = w.filled;
-  last = λ none. w.last (none_behind text first (sym e ∙ none));
+  last = λ none. w.last (none_after text first (sym e ∙ none));
 }
 put_waits (Err _) first new text later w e f = subst (λ l. IsWaiting l later) (sym f) w
 

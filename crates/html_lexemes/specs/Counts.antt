@@ -2,7 +2,7 @@
 use Rattle.std.specs.Prelude.{ℕ, Bool, ◌==◌, List, count_by}
 use Rattle.std.specs.List.{list_all}
 
--- how often an element stands in a list, where `equal` emits equal elements
+-- how often an element stands in a list, where `equal` is the test of equality
 abbrev pub count_of : {A : Type 0} → (A → A → Bool) → A → List A → ℕ
 count_of equal a xs = count_by (λ x. equal x a) xs
 

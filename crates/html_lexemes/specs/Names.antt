@@ -1,7 +1,7 @@
 -- A name as it is held: a known one, or its text.
 use Rattle.std.specs.Prelude.{ℕ, List, Option, None, Some}
-use Rattle.known_names.specs.Known.{known_at, known_text}
-use Rattle.known_names.specs.declared.known.KnownName.{KnownName}
+use Rattle.lex_base.specs.Known.{known_at, known_text}
+use Rattle.lex_base.specs.declared.known.KnownName.{KnownName}
 use Rattle.html_lexemes.specs.declared.names.Name.{Name}
 use Rattle.html_lexemes.specs.declared.names.Name.TheVariants.{Known, Other}
 

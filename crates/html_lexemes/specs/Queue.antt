@@ -1,6 +1,6 @@
 -- A queue of characters as one text, with a count of what was taken from it.
-use Rattle.std.specs.Prelude.{◌≡◌, ℕ, ◌+◌, ◌^◌, ◌-◌, min, Bool, true, false, not, ◌==◌, List, [], ◌∷◌, ◌++◌, length}
-use Rattle.std.specs.Prelude.{Option, Some, None, refl}
+use Rattle.std.specs.Prelude.{◌≡◌, ◌+◌, ◌^◌, ◌-◌, ◌==◌, [], ◌∷◌, ◌++◌, Bool, List, None, Option, Some, false, length}
+use Rattle.std.specs.Prelude.{min, not, refl, true, ℕ}
 use Rattle.std.specs.List.{list_any, list_all}
 use Rattle.std.specs.Coded.{Coded, code_by, coded×, coded_ℕ, coded_list}
 

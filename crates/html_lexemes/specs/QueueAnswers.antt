@@ -13,8 +13,8 @@ PopsExcept set old (Some (NotFromSet run)) new =
     × IsTrue (is_free_of set (chars (string_bytes run)))
 
 -- a run of characters outside the set was taken, and stands after what the text was before
-pub record PopsRun (set : List ℕ) (old : Queue) (before : List ℕ) (new : Queue) (behind : List ℕ) : Type 0 where
+pub record PopsRun (set : List ℕ) (old : Queue) (before : List ℕ) (new : Queue) (trailing : List ℕ) : Type 0 where
   pub cs : List ℕ
   pub takes : Takes old cs new
-  pub appended : chars behind ≡ chars before ++ cs
+  pub appended : chars trailing ≡ chars before ++ cs
   pub free : IsTrue (is_free_of set cs)

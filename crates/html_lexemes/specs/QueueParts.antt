@@ -1,7 +1,6 @@
 -- What the parts of a queue's calls do: on the bytes of a text, and on the texts that wait.
-use Rattle.std.specs.Prelude.{◌≡◌, ℕ, ◌<◌, Bool, true, false, ◌||◌, nat_lt, nat_le, IsTrue, List, [], ◌∷◌, ◌++◌}
-use Rattle.std.specs.Prelude.{length, take, chars, String, string_bytes, All, Option, None, Some, slice_get}
-use Rattle.std.specs.Prelude.{slice_index_or}
+use Rattle.std.specs.Prelude.{◌≡◌, ◌<◌, ◌||◌, [], ◌∷◌, ◌++◌, All, Bool, IsTrue, List, None, Option, Some, String, chars}
+use Rattle.std.specs.Prelude.{false, length, nat_le, nat_lt, slice_get, slice_index_or, string_bytes, take, true, ℕ}
 use Rattle.std.specs.Str.{IsCharBoundary}
 use Rattle.html_lexemes.specs.Queue.{is_in, is_free_of, IsAlike, EndsInside, Differs}
 
@@ -42,10 +41,10 @@ pub record IsWaiting {Z : Type 0} (first : List ℕ) (later : List (String Z)) :
 
 -- so many characters outside the set were taken, and stand after what the text was before: at least one, where the
 -- first is not in the set
-pub record TakesRun (set old before new behind : List ℕ) (count : ℕ) : Type 0 where
+pub record TakesRun (set old before new trailing : List ℕ) (count : ℕ) : Type 0 where
   pub cs : List ℕ
   pub text : old ≡ cs ++ new
-  pub appended : chars behind ≡ chars before ++ cs
+  pub appended : chars trailing ≡ chars before ++ cs
   pub free : IsTrue (is_free_of set cs)
   pub some : (c : ℕ) → slice_get old 0 ≡ Some c → is_in set c ≡ false → 0 < length cs
   pub counts : count ≡ length cs

@@ -32,7 +32,7 @@
 //! longest run, or nothing; a `share` that shares nothing; a `push` that takes more room than the attribute needs.
 //! They would be slower or take more memory, and emit the same. `rt plant` has not run on these two.
 //!
-//! Only tested (in `token_rows`): the texts of the faults, and that calls succeed where memory is found, here and
+//! Only tested (in `test_tokens`): the texts of the faults, and that calls succeed where memory is found, here and
 //! in the three crates before this one. `rt plant` lets through: other texts of faults.
 #![tactic(auto)]
 
@@ -48,10 +48,11 @@ pub mod states;
 mod token;
 
 pub use attributes::Attributes;
-pub use byte_devices::{ByteReader, ByteWriter, Device, DeviceFault};
 pub use fault::ParseFault;
-pub use known_names::{KnownName, known_of};
+pub use lex_base::{
+    ByteReader, ByteWriter, Device, DeviceFault, KnownName, NamedReference, ReferenceTable,
+    TableError, Text, known_of,
+};
 pub use names::{Attribute, LocalName, Namespace, QualName};
 pub use queue::{BufferQueue, SetResult};
-pub use reference_tables::{NamedReference, ReferenceTable, TableError, Text};
 pub use token::{Doctype, ErrorMessage, ProcessResult, Tag, TagKind, Token, TokenSinkResult};

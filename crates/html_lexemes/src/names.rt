@@ -5,12 +5,11 @@ ghost use Rattle.std.specs.Cmp.Lexicographic.{texts_ties};
 ghost use Rattle.std.specs.Cmp as Cmp;
 ghost use Rattle.std.specs.Bool.{nat_eq};
 ghost use Rattle.std.proofs.Common.{refl, ap};
-ghost use Rattle.reference_tables.specs.Texts.{same_texts};
+ghost use Rattle.lex_base.specs.Texts.{same_texts};
 ghost use Rattle.std.specs.Hash as fed;
-ghost use Rattle.known_names.specs.Known.{known_at, known_text};
+ghost use Rattle.lex_base.specs.Known.{known_at, known_text};
 
-use known_names::{KnownName, known_of};
-use reference_tables::Text;
+use lex_base::{KnownName, Text, known_of};
 use std::alloc::{AllocError, Global};
 use std::cmp::Ordering;
 use std::hash::{Hash, Hasher};

@@ -1,9 +1,8 @@
 //! The definitions, computed on worked rows.
-ghost use Rattle.std.specs.Prelude.{◌≡◌, [], ◌∷◌, codes};
+ghost use Rattle.std.specs.Prelude.{◌≡◌, [], ◌∷◌, ◌^◌, ◌-◌, codes};
 ghost use Rattle.html_lexemes.specs.LineEnds.{without_mark, lines_ended};
 ghost use Rattle.html_lexemes.specs.Queue.{Differs, EndsInside, IsAlike, counted};
 ghost use Rattle.html_lexemes.specs.RowWords.{same_letter};
-ghost use Rattle.std.specs.Prelude.{◌^◌, ◌-◌};
 
 fn line_ends_of_rows()
     ensures pair { lines_ended (97 ∷ 13 ∷ 10 ∷ 98 ∷ []) ≡ 97 ∷ 10 ∷ 98 ∷ [] }

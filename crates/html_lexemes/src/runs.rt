@@ -51,9 +51,9 @@ pub(crate) fn count_of(text: &str) -> usize
     let mut rest = text.as_bytes();
     let mut count = 0;
     while !rest.is_empty() {
-        let (part, behind) = rest.split_at(rest.len().min(255));
+        let (part, trailing) = rest.split_at(rest.len().min(255));
         count += usize::from(count_of_part(part));
-        rest = behind;
+        rest = trailing;
     }
     count
 }

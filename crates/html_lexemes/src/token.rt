@@ -4,7 +4,7 @@ ghost use Rattle.html_lexemes.specs.Counts.{stand_as_often};
 use crate::attributes::Attributes;
 use crate::names::{Attribute, LocalName};
 use crate::states::RawKind;
-use reference_tables::Text;
+use lex_base::Text;
 use std::alloc::AllocError;
 
 /// Whether a tag opens or closes an element.

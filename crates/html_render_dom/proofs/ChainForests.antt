@@ -1,14 +1,13 @@
 -- The forest to which links lead is the one whose links they are.
-use Rattle.std.proofs.Common.{◌≡◌, ℕ, ◌<◌, ◌≤◌, ◌⊎◌, inl, inr, zero, suc, List, [], ◌∷◌, ◌++◌, Option, None, length}
-use Rattle.std.proofs.Common.{map}
-use Rattle.std.proofs.Common.{refl, sym, ap, ap₂, ◌∙◌, subst, arith, slice_index_or}
-use Rattle.html_forest.specs.Changes.{left_out}
-use Rattle.html_forest.specs.Forest.{Forest, Kind, Node, children_at, document, kind_at, nodes}
-use Rattle.html_forest.specs.Orders.{AreDistinct, IsForest, IsIn, of_child}
-use Rattle.html_forest.proofs.LawLists.{decide_in, left_out_at, left_out_none, standing}
-use Rattle.html_forest.proofs.Numbers.{distinct_left_out, in_left_out}
+use Rattle.std.proofs.Common.{◌≡◌, ◌<◌, ◌≤◌, ◌⊎◌, [], ◌∷◌, ◌++◌, ◌∙◌, List, None, Option, ap, ap₂, arith, inl, inr}
+use Rattle.std.proofs.Common.{length, map, refl, slice_index_or, subst, suc, sym, zero, ℕ}
+use Rattle.tree_forest.specs.Changes.{left_out}
+use Rattle.tree_forest.specs.Forest.{Forest, Kind, Node, children_at, document, kind_at, nodes}
+use Rattle.tree_forest.specs.Orders.{AreDistinct, IsForest, IsIn, of_child}
+use Rattle.tree_forest.proofs.LawLists.{decide_in, left_out_at, left_out_none, standing}
+use Rattle.tree_forest.proofs.Numbers.{distinct_left_out, in_left_out}
 use Rattle.html_render_dom.specs.Links.{AreLinks}
-use Rattle.html_render_dom.specs.Siblings.{IsRun, Links, Spot, behind_of, edge, last_spot, link_at, sibling}
+use Rattle.html_render_dom.specs.Siblings.{IsRun, Links, Spot, after_of, edge, last_spot, link_at, sibling}
 use Rattle.html_render_dom.specs.Nodes.{IsFollowed, chain, forest_of, kinds_in, kinds_of, links_in, links_of, node_in}
 use Rattle.html_render_dom.specs.declared.node.Node.{Node as HeldNode}
 use Rattle.html_render_dom.specs.declared.nodes.Nodes.{Nodes}
@@ -21,9 +20,9 @@ chain_is next (suc steps) o (c ∷ cs) f h = ap (chain next (suc steps)) f.0
     ∙ ap (λ v. c ∷ v) (chain_is next steps (link_at c next) cs f.1 (omega arith))
 
 pub run_followed : (p : ℕ) (s : Spot) (cs : List ℕ) (l : Links) → IsRun p s cs l →
-    behind_of (last_spot s cs) l ≡ None → IsFollowed l.next (behind_of s l) cs
+    after_of (last_spot s cs) l ≡ None → IsFollowed l.next (after_of s l) cs
 run_followed p s [] l run end = end
-run_followed p s (c ∷ cs) l run end = (run.0.behind, run_followed p (sibling c) cs l run.1.1 end)
+run_followed p s (c ∷ cs) l run end = (run.0.trailing, run_followed p (sibling c) cs l run.1.1 end)
 
 -- distinct numbers below another are no more than it
 length_between : (front rest : List ℕ) (n : ℕ) → length (front ++ n ∷ rest) ≡ suc (length (front ++ rest))
@@ -60,7 +59,7 @@ chain_children p f l forest links =
     let few : length (children_at p f) ≤ nodes f = no_more (nodes f) (children_at p f) (forest.once p)
     (λ c i. forest.within p c (of_child p c i)) in
     chain_is l.next (length l.next) (link_at p l.first) (children_at p f)
-    (run_followed p (edge p) (children_at p f) l chained.run chained.end.behind)
+    (run_followed p (edge p) (children_at p f) l chained.run chained.end.trailing)
     (omega (arith, few, links.counted.next))
 
 -- a node of the forest in memory

@@ -1,9 +1,9 @@
 -- Links that are followed to the end, one step at a time.
-use Rattle.std.proofs.Common.{◌≡◌, ℕ, ◌<◌, ◌≤◌, ◌⊎◌, inl, inr, zero, suc, List, ◌∷◌, Option, None, Some, length}
-use Rattle.std.proofs.Common.{refl, sym, ap, ◌∙◌, subst, arith, slice_set}
+use Rattle.std.proofs.Common.{◌≡◌, ◌<◌, ◌≤◌, ◌⊎◌, ◌∷◌, ◌∙◌, List, None, Option, Some, ap, arith, inl, inr, length, refl}
+use Rattle.std.proofs.Common.{slice_set, subst, suc, sym, zero, ℕ}
 use Rattle.std.proofs.lemmas.Bool.{cases_eq}
 use Rattle.std.proofs.lemmas.List.{get_or-set_same, get_or-set_other, length-set}
-use Rattle.html_forest.specs.Orders.{IsIn}
+use Rattle.tree_forest.specs.Orders.{IsIn}
 use Rattle.html_render_dom.specs.Siblings.{Links, link_at, with_parent}
 use Rattle.html_render_dom.specs.Nodes.{IsFollowed, chain, with_parents}
 use Rattle.html_render_dom.proofs.ChainForests.{chain_is}

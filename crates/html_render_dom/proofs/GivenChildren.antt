@@ -1,30 +1,28 @@
 -- The children of a node are given to another: the links after it are those of the forest after it.
-use Rattle.std.proofs.Common.{◌≡◌, ℕ, ◌<◌, ◌⊎◌, inl, inr, List, [], ◌∷◌, ◌++◌, Option, None, Some, length}
-use Rattle.std.proofs.Common.{refl, sym, ap, ◌∙◌, subst}
+use Rattle.std.proofs.Common.{◌≡◌, ◌<◌, ◌⊎◌, [], ◌∷◌, ◌++◌, ◌∙◌, List, None, Option, Some, ap, inl, inr, length, refl}
+use Rattle.std.proofs.Common.{subst, sym, ℕ}
 use Rattle.std.proofs.lemmas.Bool.{cases_eq}
-use Rattle.html_forest.proofs.LawLists.{decide_in}
-use Rattle.html_forest.specs.Forest.{Forest, Holds, children_at, nodes}
-use Rattle.html_forest.specs.Orders.{AreDistinct, IsForest, IsIn, of_child}
+use Rattle.tree_forest.proofs.LawLists.{decide_in}
+use Rattle.tree_forest.specs.Forest.{Forest, Holds, children_at, nodes}
+use Rattle.tree_forest.specs.Orders.{AreDistinct, IsForest, IsIn, of_child}
 use Rattle.html_render_dom.specs.Links.{AreLinks}
-use Rattle.html_render_dom.specs.Siblings.{AreCounted, AreNeighbours, IsChain, IsRun, Links, Spot, before_of, behind_of}
+use Rattle.html_render_dom.specs.Siblings.{AreCounted, AreNeighbours, IsChain, IsRun, Links, Spot, after_of, before_of}
 use Rattle.html_render_dom.specs.Siblings.{edge, given, holder, joined, last_spot, link_at, number_at, sibling}
-use Rattle.html_render_dom.specs.Siblings.{with_before}
-use Rattle.html_render_dom.specs.Siblings.{with_behind}
+use Rattle.html_render_dom.specs.Siblings.{with_after, with_before}
 use Rattle.html_render_dom.specs.Nodes.{with_parents}
-use Rattle.html_render_dom.proofs.LinkReads.{before_behind, before_kept, before_set, behind_before, behind_kept}
-use Rattle.html_render_dom.proofs.LinkReads.{behind_set}
-use Rattle.html_render_dom.proofs.LinkReads.{counted_before, counted_behind, counted_joined, edge_apart, joined_before}
-use Rattle.html_render_dom.proofs.LinkReads.{joined_behind, joined_parent, joined_there, parent_before, parent_behind}
+use Rattle.html_render_dom.proofs.LinkReads.{after_before, after_kept, after_set, before_after, before_kept, before_set}
+use Rattle.html_render_dom.proofs.LinkReads.{counted_after, counted_before, counted_joined, edge_apart, joined_after}
+use Rattle.html_render_dom.proofs.LinkReads.{joined_before, joined_parent, joined_there, parent_after, parent_before}
 use Rattle.html_render_dom.proofs.LinkReads.{same_sibling}
-use Rattle.html_render_dom.proofs.ChildRuns.{IsChildSpot, last_child, last_or_edge}
-use Rattle.html_render_dom.proofs.ChildRuns.{run_moved, source_is, source_not_last}
+use Rattle.html_render_dom.proofs.ChildRuns.{IsChildSpot, last_child, last_or_edge, run_moved, source_is}
+use Rattle.html_render_dom.proofs.ChildRuns.{source_not_last}
 use Rattle.html_render_dom.proofs.ChildChains.{IsTail, chain_by, in_left, in_right, last_edge, last_not}
 use Rattle.html_render_dom.proofs.LinkChanges.{down, holds_last}
 
 -- other parents change no other link
-pub behind_parents : (ps : List (Option ℕ)) (u : Spot) (l : Links) → behind_of u (with_parents ps l) ≡ behind_of u l
-behind_parents ps (edge p) l = refl
-behind_parents ps (sibling n) l = refl
+pub after_parents : (ps : List (Option ℕ)) (u : Spot) (l : Links) → after_of u (with_parents ps l) ≡ after_of u l
+after_parents ps (edge p) l = refl
+after_parents ps (sibling n) l = refl
 
 pub before_parents : (ps : List (Option ℕ)) (u : Spot) (l : Links) → before_of u (with_parents ps l) ≡ before_of u l
 before_parents ps (edge p) l = refl
@@ -35,7 +33,7 @@ same_edge e = ap holder e
 
 -- what the links are after it
 pub record IsGiven (from to : ℕ) (s : Spot) (c : ℕ) (last : Option ℕ) (l m : Links) : Type 0 where
-  pub behind : (u : Spot) → ¬ (u ≡ s) → ¬ (u ≡ edge from) → behind_of u m ≡ behind_of u l
+  pub trailing : (u : Spot) → ¬ (u ≡ s) → ¬ (u ≡ edge from) → after_of u m ≡ after_of u l
   pub before : (u : Spot) → ¬ (u ≡ sibling c) → ¬ (u ≡ edge to) → ¬ (u ≡ edge from) → before_of u m ≡ before_of u l
   pub joint : AreNeighbours s (sibling c) m
   pub end : before_of (edge to) m ≡ last
@@ -44,19 +42,19 @@ pub record IsGiven (from to : ℕ) (s : Spot) (c : ℕ) (last : Option ℕ) (l m
 pub is_given : (k from to c : ℕ) (s : Spot) (last : Option ℕ) (l : Links) → AreCounted k l → holder s < k → c < k →
     from < k → to < k → ¬ (from ≡ to) → ¬ (s ≡ edge from) → IsGiven from to s c last l (given from to s c last l)
 is_given k from to c s last l count hs hc hf ht apart off = record {
-  behind = λ u other edges. behinds u edges ∙ joined_behind s (sibling c) u l other;
+  trailing = λ u other edges. trailings u edges ∙ joined_after s (sibling c) u l other;
   before = λ u other edges rest. befores u edges rest ∙ joined_before s (sibling c) u l other;
   joint = record {
-    behind = behinds s off ∙ one.behind;
+    trailing = trailings s off ∙ one.trailing;
     before = befores (sibling c) (λ e. edge_apart (sym e)) (λ e. edge_apart (sym e)) ∙ one.before;
   };
   end = before_kept (edge from) (edge to) None third (λ e. apart (sym (same_edge e)))
-      ∙ (before_behind (edge from) (edge to) None second ∙ before_set k (edge to) last first counted ht);
+      ∙ (before_after (edge from) (edge to) None second ∙ before_set k (edge to) last first counted ht);
   emptied = record {
-    behind = behind_before (edge from) (edge from) None third
-        ∙ behind_set k (edge from) None second (counted_before k (edge to) last first counted) hf;
+    trailing = after_before (edge from) (edge from) None third
+        ∙ after_set k (edge from) None second (counted_before k (edge to) last first counted) hf;
     before = before_set k (edge from) None third
-        (counted_behind k (edge from) None second (counted_before k (edge to) last first counted)) hf;
+        (counted_after k (edge from) None second (counted_before k (edge to) last first counted)) hf;
   };
 } where
   first : Links
@@ -66,7 +64,7 @@ is_given k from to c s last l count hs hc hf ht apart off = record {
   second = with_before (edge to) last first
 
   third : Links
-  third = with_behind (edge from) None second
+  third = with_after (edge from) None second
 
   counted : AreCounted k first
   counted = counted_joined k s (sibling c) l count
@@ -74,27 +72,27 @@ is_given k from to c s last l count hs hc hf ht apart off = record {
   one : AreNeighbours s (sibling c) first
   one = joined_there k s (sibling c) l count hs hc
 
-  behinds : (u : Spot) → ¬ (u ≡ edge from) → behind_of u (given from to s c last l) ≡ behind_of u first
-  behinds u other = behind_before (edge from) u None third
-      ∙ (behind_kept (edge from) u None second other ∙ behind_before (edge to) u last first)
+  trailings : (u : Spot) → ¬ (u ≡ edge from) → after_of u (given from to s c last l) ≡ after_of u first
+  trailings u other = after_before (edge from) u None third
+      ∙ (after_kept (edge from) u None second other ∙ after_before (edge to) u last first)
 
   befores : (u : Spot) → ¬ (u ≡ edge to) → ¬ (u ≡ edge from) →
       before_of u (given from to s c last l) ≡ before_of u first
   befores u at other = before_kept (edge from) u None third other
-      ∙ (before_behind (edge from) u None second ∙ before_kept (edge to) u last first at)
+      ∙ (before_after (edge from) u None second ∙ before_kept (edge to) u last first at)
 
 pub given_parents : (from to c : ℕ) (s : Spot) (last : Option ℕ) (l : Links) →
     (given from to s c last l).parent ≡ l.parent
 given_parents from to c s last l =
-    parent_before (edge from) None (with_behind (edge from) None (with_before (edge to) last (joined s (sibling c) l)))
-    ∙ (parent_behind (edge from) None (with_before (edge to) last (joined s (sibling c) l))
+    parent_before (edge from) None (with_after (edge from) None (with_before (edge to) last (joined s (sibling c) l)))
+    ∙ (parent_after (edge from) None (with_before (edge to) last (joined s (sibling c) l))
     ∙ (parent_before (edge to) last (joined s (sibling c) l) ∙ joined_parent s (sibling c) l))
 
 pub counted_given : (k from to c : ℕ) (s : Spot) (last : Option ℕ) (l : Links) → AreCounted k l →
     AreCounted k (given from to s c last l)
 counted_given k from to c s last l count = counted_before k (edge from) None
-    (with_behind (edge from) None (with_before (edge to) last (joined s (sibling c) l)))
-    (counted_behind k (edge from) None (with_before (edge to) last (joined s (sibling c) l))
+    (with_after (edge from) None (with_before (edge to) last (joined s (sibling c) l)))
+    (counted_after k (edge from) None (with_before (edge to) last (joined s (sibling c) l))
     (counted_before k (edge to) last (joined s (sibling c) l) (counted_joined k s (sibling c) l count)))
 
 -- all chains after it
@@ -167,8 +165,8 @@ linked_given f g l ps from to c ds cs are forest links hf ht size passed others 
       (forest.within from c (of_child from c (from_child c (inl refl)))) hf ht are.apart
       (last_edge to from ds are.apart)
 
-  behinds : (u : Spot) → ¬ (u ≡ s) → ¬ (u ≡ edge from) → behind_of u m ≡ behind_of u l
-  behinds u off other = done.behind u off other ∙ behind_parents ps u l
+  trailings : (u : Spot) → ¬ (u ≡ s) → ¬ (u ≡ edge from) → after_of u m ≡ after_of u l
+  trailings u off other = done.trailing u off other ∙ after_parents ps u l
 
   befores : (u : Spot) → ¬ (u ≡ sibling c) → ¬ (u ≡ edge to) → ¬ (u ≡ edge from) → before_of u m ≡ before_of u l
   befores u off at other = done.before u off at other ∙ before_parents ps u l
@@ -177,13 +175,13 @@ linked_given f g l ps from to c ds cs are forest links hf ht size passed others 
   child_before n off = befores (sibling n) (λ e. off (same_sibling e)) (λ e. edge_apart (sym e))
       (λ e. edge_apart (sym e))
 
-  child_behind : (n : ℕ) → ¬ (IsIn n ds) → behind_of (sibling n) m ≡ behind_of (sibling n) l
-  child_behind n off = behinds (sibling n) (s_off n off) (λ e. edge_apart (sym e))
+  child_after : (n : ℕ) → ¬ (IsIn n ds) → after_of (sibling n) m ≡ after_of (sibling n) l
+  child_after n off = trailings (sibling n) (s_off n off) (λ e. edge_apart (sym e))
 
   -- the children that were there
   front : IsRun to (edge to) ds m
   front = run_moved to to (edge to) ds l m (subst (λ v. IsRun to (edge to) v l) are.children (links.chains to).run)
-      (λ u h. behinds u (source_not_last u (edge to) ds h distinct_to (λ n i e. edge_apart e))
+      (λ u h. trailings u (source_not_last u (edge to) ds h distinct_to (λ n i e. edge_apart e))
       (sources u (source_is u (edge to) ds h)))
       (λ n i. child_before n (λ e. apart_lists n i (inl e)))
       (λ n i. parents n ∙ (others n (apart_lists n i) ∙ down f l n to links (to_child n i))) where
@@ -195,9 +193,9 @@ linked_given f g l ps from to c ds cs are forest links hf ht size passed others 
   old : IsChain from (c ∷ cs) l
   old = subst (λ v. IsChain from v l) are.moved (links.chains from)
 
-  spots : (u : Spot) → IsChildSpot u (c ∷ cs) → behind_of u m ≡ behind_of u l
-  spots u w = subst (λ v. behind_of v m ≡ behind_of v l) (sym w.is)
-      (child_behind w.number (λ i. apart_lists w.number i w.child))
+  spots : (u : Spot) → IsChildSpot u (c ∷ cs) → after_of u m ≡ after_of u l
+  spots u w = subst (λ v. after_of v m ≡ after_of v l) (sym w.is)
+      (child_after w.number (λ i. apart_lists w.number i w.child))
 
   tail : IsTail to c cs m
   tail = record {
@@ -207,7 +205,7 @@ linked_given f g l ps from to c ds cs are forest links hf ht size passed others 
         (λ n i. child_before n (λ e. distinct_from.0 (subst (λ k. IsIn k cs) e i)))
         (λ n i. parents n ∙ passed n (inr i));
     end = record {
-      behind = spots (last_spot (sibling c) cs) (last_child c cs) ∙ old.end.behind;
+      trailing = spots (last_spot (sibling c) cs) (last_child c cs) ∙ old.end.trailing;
       before = done.end;
     };
   } where
@@ -223,8 +221,8 @@ linked_given f g l ps from to c ds cs are forest links hf ht size passed others 
         (λ n i. child_before n (λ e. no_from n i (inl e)))
         (λ n i. parents n ∙ (others n (no_from n i) ∙ down f l n q links i));
     end = record {
-      behind = at (last_spot (edge q) (children_at q f)) (last_or_edge (edge q) (children_at q f))
-          ∙ (links.chains q).end.behind;
+      trailing = at (last_spot (edge q) (children_at q f)) (last_or_edge (edge q) (children_at q f))
+          ∙ (links.chains q).end.trailing;
       before = befores (edge q) edge_apart (λ e. apart (same_edge e)) (λ e. other (same_edge e))
           ∙ (links.chains q).end.before;
     };
@@ -235,11 +233,11 @@ linked_given f g l ps from to c ds cs are forest links hf ht size passed others 
     no_to : (n : ℕ) → IsIn n (children_at q f) → ¬ (IsIn n ds)
     no_to n i j = apart (forest.single q to n (of_child q n i) (of_child to n (to_child n j)))
 
-    at : (u : Spot) → (u ≡ edge q) ⊎ IsChildSpot u (children_at q f) → behind_of u m ≡ behind_of u l
-    at u (inl e) = subst (λ v. behind_of v m ≡ behind_of v l) (sym e)
-        (behinds (edge q) (λ e. last_edge to q ds apart (sym e)) (λ e. other (same_edge e)))
-    at u (inr w) = subst (λ v. behind_of v m ≡ behind_of v l) (sym w.is)
-        (child_behind w.number (no_to w.number w.child))
+    at : (u : Spot) → (u ≡ edge q) ⊎ IsChildSpot u (children_at q f) → after_of u m ≡ after_of u l
+    at u (inl e) = subst (λ v. after_of v m ≡ after_of v l) (sym e)
+        (trailings (edge q) (λ e. last_edge to q ds apart (sym e)) (λ e. other (same_edge e)))
+    at u (inr w) = subst (λ v. after_of v m ≡ after_of v l) (sym w.is)
+        (child_after w.number (no_to w.number w.child))
 
   chains : (q : ℕ) → (q ≡ to) ⊎ (q ≡ to → ⊥) → (q ≡ from) ⊎ (q ≡ from → ⊥) → IsChain q (children_at q g) m
   chains q (inl e) _ = subst (λ v. IsChain v (children_at v g) m) (sym e) (subst (λ v. IsChain to v m) (sym are.all)
@@ -274,5 +272,5 @@ linked_given f g l ps from to c ds cs are forest links hf ht size passed others 
       let was : link_at n l.parent ≡ None = sym (others n off) ∙ h in
       let before = links.alone n was in (
         child_before n (λ e. off (inl e)) ∙ before.0,
-        child_behind n (λ i. no_some (sym was ∙ down f l n to links (to_child n i))) ∙ before.1,
+        child_after n (λ i. no_some (sym was ∙ down f l n to links (to_child n i))) ∙ before.1,
       )

@@ -1,23 +1,20 @@
 -- Nodes in memory are the forest of before with one change, and linked.
-use Rattle.std.proofs.Common.{◌≡◌, ℕ, ◌<◌, ◌⊎◌, inl, inr, List, [], ◌∷◌, ◌++◌, Option, None, Some, length}
-use Rattle.std.proofs.Common.{refl, sym, ap, ap₂, ◌∙◌, subst, suc, zero, arith, slice_index_or}
-use Rattle.std.proofs.Common.{◌+◌, MatchOption}
+use Rattle.std.proofs.Common.{◌≡◌, ◌<◌, ◌⊎◌, [], ◌∷◌, ◌++◌, ◌∙◌, ◌+◌, List, MatchOption, None, Option, Some, ap, ap₂}
+use Rattle.std.proofs.Common.{arith, inl, inr, length, refl, slice_index_or, subst, suc, sym, zero, ℕ}
 use Rattle.std.specs.Option.{option_to_list}
 use Rattle.std.proofs.lemmas.List.{length-append, length-map}
-use Rattle.html_forest.specs.Changes.{made, reparented}
-use Rattle.html_forest.specs.Conditions.{CanMove}
-use Rattle.html_forest.specs.Forest.{Forest, Holds, Kind, children_at, document, kind_at, nodes, page_alone}
-use Rattle.html_forest.specs.Orders.{AreDistinct, IsForest, IsIn, of_child}
-use Rattle.html_forest.specs.Places.{before, below, last_of, one_before}
-use Rattle.html_forest.proofs.LawLists.{chosen_at, chosen_off, not_in_front, standing}
-use Rattle.html_forest.proofs.Nodes.{holds_child, same_some}
-use Rattle.html_render_dom.specs.Links.{AreLinks}
-use Rattle.html_render_dom.specs.Siblings.{IsChain, Spot, before_of, behind_of, edge, first_spot, given, holder}
-use Rattle.html_render_dom.specs.Siblings.{last_spot}
-use Rattle.html_render_dom.specs.Siblings.{link_at, number_at, put_between, sibling, spot_of, taken_from}
-use Rattle.html_render_dom.specs.Links.{IsLinked}
-use Rattle.html_render_dom.specs.Nodes.{IsFollowed, chain, forest_of, kind_of, kinds_in, kinds_of, links_in}
-use Rattle.html_render_dom.specs.Nodes.{links_of, with_no_links, with_parents}
+use Rattle.tree_forest.specs.Changes.{made, reparented}
+use Rattle.tree_forest.specs.Conditions.{CanMove}
+use Rattle.tree_forest.specs.Forest.{Forest, Holds, Kind, children_at, document, kind_at, nodes, page_alone}
+use Rattle.tree_forest.specs.Orders.{AreDistinct, IsForest, IsIn, of_child}
+use Rattle.tree_forest.specs.Places.{before, below, last_of, one_before}
+use Rattle.tree_forest.proofs.LawLists.{chosen_at, chosen_off, not_in_front, standing}
+use Rattle.tree_forest.proofs.Nodes.{holds_child, same_some}
+use Rattle.html_render_dom.specs.Links.{AreLinks, IsLinked}
+use Rattle.html_render_dom.specs.Siblings.{IsChain, Spot, after_of, before_of, edge, first_spot, given, holder}
+use Rattle.html_render_dom.specs.Siblings.{last_spot, link_at, number_at, put_between, sibling, spot_of, taken_from}
+use Rattle.html_render_dom.specs.Nodes.{IsFollowed, chain, forest_of, kind_of, kinds_in, kinds_of, links_in, links_of}
+use Rattle.html_render_dom.specs.Nodes.{with_no_links, with_parents}
 use Rattle.html_render_dom.specs.Spans.{IsLeft, span}
 use Rattle.html_render_dom.specs.declared.node.Node.{Node as HeldNode}
 use Rattle.html_render_dom.specs.declared.nodes.Nodes.{Nodes}
@@ -27,9 +24,8 @@ use Rattle.html_render_dom.proofs.ChainForests.{size_of}
 use Rattle.html_render_dom.proofs.GivenChildren.{AreGiven, linked_given}
 use Rattle.std.proofs.lemmas.Bool.{cases_eq}
 use Rattle.html_render_dom.proofs.LinkedNodes.{no_child}
-use Rattle.html_render_dom.proofs.LinkChanges.{before_is, behind_is, down, first_back, holds_first, holds_last}
-use Rattle.html_render_dom.proofs.LinkChanges.{last_back}
-use Rattle.html_render_dom.proofs.LinkChanges.{linked_made, linked_out, linked_put}
+use Rattle.html_render_dom.proofs.LinkChanges.{after_is, before_is, down, first_back, holds_first, holds_last}
+use Rattle.html_render_dom.proofs.LinkChanges.{last_back, linked_made, linked_out, linked_put}
 
 -- a forest that is in memory, as a whole
 pub held_as : (new : Nodes) (g : Forest) → nodes g ≡ length (kinds_of new) →
@@ -67,7 +63,7 @@ last_held held p s linked hp is =
     (holds_last p (nodes (forest_of held)) cs hp (λ c i. linked.forest.within p c (of_child p c i))))
 
 pub beside_held : (held : Nodes) (p n : ℕ) (s t : Option ℕ) → IsLinked held → IsIn n (children_at p (forest_of held)) →
-    s ≡ before_of (sibling n) (links_of held) → t ≡ behind_of (sibling n) (links_of held) →
+    s ≡ before_of (sibling n) (links_of held) → t ≡ after_of (sibling n) (links_of held) →
     (holder (spot_of p s) < length (kinds_of held)) × (holder (spot_of p t) < length (kinds_of held))
 beside_held held p n s t linked child is-s is-t =
     let f = forest_of held in
@@ -77,7 +73,7 @@ beside_held held p n s t linked child is-s is-t =
     let at-s : spot_of p s ≡ last_spot (edge p) w.front =
     ap (spot_of p) (is-s ∙ before_is p n w.front w.rest (links_of held) chain) ∙ last_back p w.front in
     let at-t : spot_of p t ≡ first_spot w.rest (edge p) =
-    ap (spot_of p) (is-t ∙ behind_is p n w.front w.rest (links_of held) chain) ∙ first_back p w.rest in
+    ap (spot_of p) (is-t ∙ after_is p n w.front w.rest (links_of held) chain) ∙ first_back p w.rest in
     let hp = holds_child p n f child in (
       subst (λ k. holder (spot_of p s) < k) (size_of held) (subst (λ u. holder u < nodes f) (sym at-s)
           (holds_last p (nodes f) w.front hp (λ c i. within c (in_front c n w.front w.rest i) w.whole))),
@@ -143,7 +139,7 @@ pub out_held : (old new : Nodes) (p n : ℕ) (s t : Option ℕ) (g : Forest) (xs
     children_at p (forest_of old) ≡ xs ++ n ∷ ys → IsForest g → children_at p g ≡ xs ++ ys →
     ((q : ℕ) → ¬ (q ≡ p) → children_at q g ≡ children_at q (forest_of old)) → nodes g ≡ nodes (forest_of old) →
     ((m : ℕ) → kind_at m g ≡ kind_at m (forest_of old)) → kinds_of new ≡ kinds_of old →
-    s ≡ before_of (sibling n) (links_of old) → t ≡ behind_of (sibling n) (links_of old) →
+    s ≡ before_of (sibling n) (links_of old) → t ≡ after_of (sibling n) (links_of old) →
     links_of new ≡ taken_from (spot_of p s) (spot_of p t) n (links_of old) → (forest_of new ≡ g) × IsLinked new
 out_held old new p n s t g xs ys linked here forest there elsewhere size kinds same is-s is-t links =
     held_with old new g same size kinds forest (subst (AreLinks g) (sym (links ∙ at))
@@ -160,19 +156,19 @@ out_held old new p n s t g xs ys linked here forest there elsewhere size kinds s
           ≡ taken_from (last_spot (edge p) xs) (first_spot ys (edge p)) n (links_of old)
       at = ap₂ (λ u v. taken_from u v n (links_of old))
           (ap (spot_of p) (is-s ∙ before_is p n xs ys (links_of old) chain) ∙ last_back p xs)
-          (ap (spot_of p) (is-t ∙ behind_is p n xs ys (links_of old) chain) ∙ first_back p ys)
+          (ap (spot_of p) (is-t ∙ after_is p n xs ys (links_of old) chain) ∙ first_back p ys)
 
 -- a node more
-kind_behind : (kind : Kind) (f : Forest) (ks : List Kind) (m : ℕ) → nodes f ≡ length ks →
+kind_after : (kind : Kind) (f : Forest) (ks : List Kind) (m : ℕ) → nodes f ≡ length ks →
     ((k : ℕ) → kind_at k f ≡ slice_index_or ks k document) →
     kind_at m (made kind f) ≡ slice_index_or (ks ++ kind ∷ []) m document
-kind_behind kind [] [] zero size kinds = refl
-kind_behind kind [] [] (suc m) size kinds = refl
-kind_behind kind [] (k ∷ ks) m size kinds = absurd (omega (arith, size))
-kind_behind kind (x ∷ f) [] m size kinds = absurd (omega (arith, size))
-kind_behind kind (x ∷ f) (k ∷ ks) zero size kinds = kinds zero
-kind_behind kind (x ∷ f) (k ∷ ks) (suc m) size kinds =
-    kind_behind kind f ks m (omega (arith, size)) (λ n. kinds (suc n))
+kind_after kind [] [] zero size kinds = refl
+kind_after kind [] [] (suc m) size kinds = refl
+kind_after kind [] (k ∷ ks) m size kinds = absurd (omega (arith, size))
+kind_after kind (x ∷ f) [] m size kinds = absurd (omega (arith, size))
+kind_after kind (x ∷ f) (k ∷ ks) zero size kinds = kinds zero
+kind_after kind (x ∷ f) (k ∷ ks) (suc m) size kinds =
+    kind_after kind f ks m (omega (arith, size)) (λ n. kinds (suc n))
 
 pub made_held : (old new : Nodes) (kind : Kind) → IsLinked old → IsForest (made kind (forest_of old)) →
     nodes (made kind (forest_of old)) ≡ suc (nodes (forest_of old)) →
@@ -181,7 +177,7 @@ pub made_held : (old new : Nodes) (kind : Kind) → IsLinked old → IsForest (m
     (forest_of new ≡ made kind (forest_of old)) × IsLinked new
 made_held old new kind linked forest size children kinds links = held_as new (made kind (forest_of old))
     (size ∙ (ap suc (size_of old) ∙ sym (ap length kinds ∙ (length-append (kinds_of old) (kind ∷ []) ∙ omega arith))))
-    (λ m. kind_behind kind (forest_of old) (kinds_of old) m (size_of old) (kind_of_held old)
+    (λ m. kind_after kind (forest_of old) (kinds_of old) m (size_of old) (kind_of_held old)
     ∙ ap (λ v. slice_index_or v m document) (sym kinds))
     forest
     (subst (AreLinks (made kind (forest_of old))) (sym links)
@@ -219,35 +215,35 @@ pub record StartsWith (c : ℕ) (cs : List ℕ) : Type 0 where
   pub rest : List ℕ
   pub whole : cs ≡ c ∷ rest
 
-pub starts_with : (held : Nodes) (p c : ℕ) → IsLinked held → Some c ≡ behind_of (edge p) (links_of held) →
+pub starts_with : (held : Nodes) (p c : ℕ) → IsLinked held → Some c ≡ after_of (edge p) (links_of held) →
     StartsWith c (children_at p (forest_of held))
 starts_with held p c linked e = by (children_at p (forest_of held)) (linked.links.chains p) where
   by : (cs : List ℕ) → IsChain p cs (links_of held) → StartsWith c cs
-  by [] chain = absurd (let none : Some c ≡ None = e ∙ chain.end.behind in cc)
-  by (d ∷ cs) chain = let same : Some c ≡ Some d = e ∙ chain.run.0.behind in
+  by [] chain = absurd (let none : Some c ≡ None = e ∙ chain.end.trailing in cc)
+  by (d ∷ cs) chain = let same : Some c ≡ Some d = e ∙ chain.run.0.trailing in
       record { rest = cs; whole = ap (λ v. v ∷ cs) (sym (same_some c d same)) }
 
-pub no_first : (held : Nodes) (p : ℕ) → IsLinked held → None ≡ behind_of (edge p) (links_of held) →
+pub no_first : (held : Nodes) (p : ℕ) → IsLinked held → None ≡ after_of (edge p) (links_of held) →
     children_at p (forest_of held) ≡ []
 no_first held p linked e = by (children_at p (forest_of held)) (linked.links.chains p) where
   by : (cs : List ℕ) → IsChain p cs (links_of held) → cs ≡ []
   by [] chain = refl
-  by (d ∷ cs) chain = absurd (let some : None ≡ Some d = e ∙ chain.run.0.behind in cc)
+  by (d ∷ cs) chain = absurd (let some : None ≡ Some d = e ∙ chain.run.0.trailing in cc)
 
 -- what following the links of a node's children asks
-pub children_chain : (held : Nodes) (p : ℕ) (o : Option ℕ) → IsLinked held → o ≡ behind_of (edge p) (links_of held) →
+pub children_chain : (held : Nodes) (p : ℕ) (o : Option ℕ) → IsLinked held → o ≡ after_of (edge p) (links_of held) →
     chain (links_of held).next (length (links_of held).next) o ≡ children_at p (forest_of held)
 children_chain held p o linked e = ap (chain (links_of held).next (length (links_of held).next)) e
     ∙ chain_children p (forest_of held) (links_of held) linked.forest linked.links
 
-pub children_followed : (held : Nodes) (p : ℕ) (o : Option ℕ) → IsLinked held → o ≡ behind_of (edge p) (links_of held) →
+pub children_followed : (held : Nodes) (p : ℕ) (o : Option ℕ) → IsLinked held → o ≡ after_of (edge p) (links_of held) →
     IsFollowed (links_of held).next o (chain (links_of held).next (length (links_of held).next) o)
 children_followed held p o linked e = subst (IsFollowed (links_of held).next o) (sym (children_chain held p o linked e))
     (subst (λ v. IsFollowed (links_of held).next v (children_at p (forest_of held))) (sym e)
     (run_followed p (edge p) (children_at p (forest_of held)) (links_of held) (linked.links.chains p).run
-    (linked.links.chains p).end.behind))
+    (linked.links.chains p).end.trailing))
 
-pub children_held : (held : Nodes) (p n : ℕ) (o : Option ℕ) → IsLinked held → o ≡ behind_of (edge p) (links_of held) →
+pub children_held : (held : Nodes) (p n : ℕ) (o : Option ℕ) → IsLinked held → o ≡ after_of (edge p) (links_of held) →
     IsIn n (chain (links_of held).next (length (links_of held).next) o) → n < length (kinds_of held)
 children_held held p n o linked e i = subst (λ k. n < k) (size_of held) (linked.forest.within p n
     (of_child p n (subst (IsIn n) (children_chain held p o linked e) i)))
@@ -297,7 +293,7 @@ given_held old new from to c cs s last ps g linked hf ht are forest kinds same i
           (with_parents ps (links_of old))
       at = ap₂ (λ u v. given from to u c v (with_parents ps (links_of old))) at-s at-last
 
-pub first_held : (held : Nodes) (p c : ℕ) → IsLinked held → Some c ≡ behind_of (edge p) (links_of held) →
+pub first_held : (held : Nodes) (p c : ℕ) → IsLinked held → Some c ≡ after_of (edge p) (links_of held) →
     c < length (kinds_of held)
 first_held held p c linked e =
     let starts = starts_with held p c linked e in
@@ -306,7 +302,7 @@ first_held held p c linked e =
 
 -- the children that an iterator begins with
 abbrev pub all_left : (held : Nodes) (p : ℕ) (front back : Option ℕ) → IsLinked held →
-    front ≡ behind_of (edge p) (links_of held) → back ≡ before_of (edge p) (links_of held) →
+    front ≡ after_of (edge p) (links_of held) → back ≡ before_of (edge p) (links_of held) →
     IsLeft (links_of held) (length (kinds_of held)) front back
 all_left held p front back linked e h = record {
   numbers = children_at p (forest_of held);
@@ -316,7 +312,7 @@ all_left held p front back linked e h = record {
 }
 
 pub left_children : (held : Nodes) (p : ℕ) (front back : Option ℕ) → IsLinked held →
-    front ≡ behind_of (edge p) (links_of held) → back ≡ before_of (edge p) (links_of held) →
+    front ≡ after_of (edge p) (links_of held) → back ≡ before_of (edge p) (links_of held) →
     span (links_of held).next (length (links_of held).next) front back ≡ children_at p (forest_of held)
 left_children held p front back linked e h = left_is (links_of held) (length (kinds_of held)) front back
     (all_next held.items.items) (all_left held p front back linked e h)
@@ -325,7 +321,7 @@ left_children held p front back linked e h = left_is (links_of held) (length (ki
 no_links_yet : AreLinks [] (links_in [])
 no_links_yet = record {
   counted = record { parent = refl; first = refl; last = refl; previous = refl; next = refl };
-  chains = λ p. record { run = tt; end = record { behind = refl; before = refl } };
+  chains = λ p. record { run = tt; end = record { trailing = refl; before = refl } };
   up = λ n p e. absurd (cc);
   alone = λ n e. (refl, refl);
 }
@@ -392,16 +388,16 @@ one_before_at front rest p s d = from front (edge p) refl d where
   none n (m ∷ ms) off = chosen_off m s (Some n) (one_before s (m ∷ ms)) (λ e. off (inl (sym e)))
       ∙ none m ms (λ i. off (inr i))
 
-  behind : (n : ℕ) (front : List ℕ) → AreDistinct (n ∷ front ++ s ∷ rest) →
+  trailing : (n : ℕ) (front : List ℕ) → AreDistinct (n ∷ front ++ s ∷ rest) →
       number_at (last_spot (sibling n) front) ≡ one_before s (n ∷ front ++ s ∷ rest)
-  behind n [] d = sym (chosen_at s s (Some n) (one_before s (s ∷ rest)) refl)
-  behind n (m ∷ front) d = behind m front d.1 ∙ sym (chosen_off m s (Some n) (one_before s (m ∷ front ++ s ∷ rest))
+  trailing n [] d = sym (chosen_at s s (Some n) (one_before s (s ∷ rest)) refl)
+  trailing n (m ∷ front) d = trailing m front d.1 ∙ sym (chosen_off m s (Some n) (one_before s (m ∷ front ++ s ∷ rest))
       (λ e. not_in_front s (m ∷ front) rest d.1 (inl (sym e))))
 
   from : (front : List ℕ) (u : Spot) → u ≡ edge p → AreDistinct (front ++ s ∷ rest) →
       number_at (last_spot u front) ≡ one_before s (front ++ s ∷ rest)
   from [] u e d = ap number_at e ∙ sym (none s rest d.0)
-  from (n ∷ front) u e d = behind n front d
+  from (n ∷ front) u e d = trailing n front d
 
 pub before_child : (held : Nodes) (p s : ℕ) (o : Option ℕ) → IsLinked held →
     Some p ≡ link_at s (links_of held).parent → o ≡ before_of (sibling s) (links_of held) →
@@ -432,8 +428,8 @@ pub template_held : (old new : Nodes) (kind : Kind) (g : Forest) → IsLinked ol
     links_of new ≡ with_no_links (with_no_links (links_of old)) → (forest_of new ≡ g) × IsLinked new
 template_held old new kind g linked is forest size children kinds links = held_as new g
     (ap nodes (sym is) ∙ (two ∙ sym (ap length kinds)))
-    (λ m. ap (kind_at m) (sym is) ∙ (kind_behind document one (kinds_of old ++ kind ∷ []) m one_size
-    (λ k. kind_behind kind (forest_of old) (kinds_of old) k (size_of old) (kind_of_held old))
+    (λ m. ap (kind_at m) (sym is) ∙ (kind_after document one (kinds_of old ++ kind ∷ []) m one_size
+    (λ k. kind_after kind (forest_of old) (kinds_of old) k (size_of old) (kind_of_held old))
     ∙ ap (λ v. slice_index_or v m document) (sym kinds)))
     forest (subst (AreLinks g) (sym links) (subst (λ v. AreLinks v (with_no_links (with_no_links (links_of old)))) is
     (linked_made one (made document one) (with_no_links (links_of old))

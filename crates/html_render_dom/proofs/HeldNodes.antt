@@ -2,7 +2,7 @@
 use Rattle.std.proofs.Common.{◌≡◌, ℕ, List, Option, None, Some, option_map, sym, ap, ◌∙◌, slice_index_or, slice_set}
 use Rattle.std.proofs.Math.Seq.{map-set_same}
 use Rattle.std.proofs.lemmas.List.{map-set}
-use Rattle.html_render_dom.specs.Siblings.{Links, spot_of, with_before, with_behind, with_parent}
+use Rattle.html_render_dom.specs.Siblings.{Links, spot_of, with_before, with_after, with_parent}
 use Rattle.html_render_dom.specs.Nodes.{kind_of, kinds_in, links_in}
 use Rattle.html_render_dom.specs.Numbers.{number_of}
 use Rattle.html_render_dom.specs.declared.node.Handle.{Handle}
@@ -35,7 +35,7 @@ parent_written xs n o x read = links_same (map-set (λ v. option_map number_of v
     (ap (λ v. option_map number_of v.next) read))
 
 pub first_written : (xs : List HeldNode) (p : ℕ) (s o : Option Handle) (x : HeldNode) → x ≡ slice_index_or xs p x →
-    s ≡ None → links_in (slice_set xs p (record x { first = o })) ≡ with_behind (spot_of p (option_map number_of s))
+    s ≡ None → links_in (slice_set xs p (record x { first = o })) ≡ with_after (spot_of p (option_map number_of s))
     (option_map number_of o) (links_in xs)
 first_written xs p s o x read is = links_same
     (map-set_same (λ v. option_map number_of v.parent) xs p (record x { first = o }) x
@@ -47,7 +47,7 @@ first_written xs p s o x read is = links_same
     (ap (λ v. option_map number_of v.previous) read))
     (map-set_same (λ v. option_map number_of v.next) xs p (record x { first = o }) x
     (ap (λ v. option_map number_of v.next) read))
-    ∙ ap (λ v. with_behind (spot_of p (option_map number_of v)) (option_map number_of o) (links_in xs)) (sym is)
+    ∙ ap (λ v. with_after (spot_of p (option_map number_of v)) (option_map number_of o) (links_in xs)) (sym is)
 
 pub last_written : (xs : List HeldNode) (p : ℕ) (s o : Option Handle) (x : HeldNode) → x ≡ slice_index_or xs p x →
     s ≡ None → links_in (slice_set xs p (record x { last = o })) ≡ with_before (spot_of p (option_map number_of s))
@@ -66,7 +66,7 @@ last_written xs p s o x read is = links_same
 
 pub next_written : (xs : List HeldNode) (p : ℕ) (n : Handle) (s o : Option Handle) (x : HeldNode) → x ≡ slice_index_or
     xs (number_of n) x →
-    s ≡ Some n → links_in (slice_set xs (number_of n) (record x { next = o })) ≡ with_behind
+    s ≡ Some n → links_in (slice_set xs (number_of n) (record x { next = o })) ≡ with_after
     (spot_of p (option_map number_of s)) (option_map number_of o) (links_in xs)
 next_written xs p n s o x read is = links_same
     (map-set_same (λ v. option_map number_of v.parent) xs (number_of n) (record x { next = o }) x
@@ -78,7 +78,7 @@ next_written xs p n s o x read is = links_same
     (map-set_same (λ v. option_map number_of v.previous) xs (number_of n) (record x { next = o }) x
     (ap (λ v. option_map number_of v.previous) read))
     (map-set (λ v. option_map number_of v.next) xs (number_of n) (record x { next = o }))
-    ∙ ap (λ v. with_behind (spot_of p (option_map number_of v)) (option_map number_of o) (links_in xs)) (sym is)
+    ∙ ap (λ v. with_after (spot_of p (option_map number_of v)) (option_map number_of o) (links_in xs)) (sym is)
 
 pub previous_written : (xs : List HeldNode) (p : ℕ) (n : Handle) (s o : Option Handle) (x : HeldNode) → x ≡
     slice_index_or xs (number_of n) x →

@@ -1,19 +1,18 @@
 -- Links stay those of a forest where a node is made, put or taken out.
-use Rattle.std.proofs.Common.{◌≡◌, ℕ, ◌<◌, ◌⊎◌, inl, inr, zero, suc, List, [], ◌∷◌, ◌++◌, Option, None, Some, length}
-use Rattle.std.proofs.Common.{refl, sym, ap, ◌∙◌, subst, arith}
+use Rattle.std.proofs.Common.{◌≡◌, ◌<◌, ◌⊎◌, [], ◌∷◌, ◌++◌, ◌∙◌, List, None, Option, Some, ap, arith, inl, inr, length}
+use Rattle.std.proofs.Common.{refl, subst, suc, sym, zero, ℕ}
 use Rattle.std.proofs.lemmas.Bool.{cases_eq}
 use Rattle.std.proofs.lemmas.List.{length-append}
-use Rattle.html_forest.specs.Forest.{Forest, Holds, children_at, nodes}
-use Rattle.html_forest.specs.Orders.{AreDistinct, IsForest, IsIn, of_child}
+use Rattle.tree_forest.specs.Forest.{Forest, Holds, children_at, nodes}
+use Rattle.tree_forest.specs.Orders.{AreDistinct, IsForest, IsIn, of_child}
 use Rattle.html_render_dom.specs.Links.{AreLinks}
-use Rattle.html_render_dom.specs.Siblings.{AreCounted, AreNeighbours, IsChain, IsRun, Links, Spot, before_of, behind_of}
+use Rattle.html_render_dom.specs.Siblings.{AreCounted, AreNeighbours, IsChain, IsRun, Links, Spot, after_of, before_of}
 use Rattle.html_render_dom.specs.Siblings.{edge, first_spot, holder, last_spot, link_at, number_at, put_between}
-use Rattle.html_render_dom.specs.Siblings.{sibling}
-use Rattle.html_render_dom.specs.Siblings.{spot_of, taken_from}
+use Rattle.html_render_dom.specs.Siblings.{sibling, spot_of, taken_from}
 use Rattle.html_render_dom.specs.Nodes.{with_no_links}
 use Rattle.html_render_dom.proofs.ChildRuns.{IsChildSpot, last_append, last_or_edge, run_parent, run_right}
-use Rattle.html_render_dom.proofs.ChildChains.{chain_elsewhere, chain_out, chain_put, first_not, in_left}
-use Rattle.html_render_dom.proofs.ChildChains.{in_right, last_not, not_left, not_right}
+use Rattle.html_render_dom.proofs.ChildChains.{chain_elsewhere, chain_out, chain_put, first_not, in_left, in_right}
+use Rattle.html_render_dom.proofs.ChildChains.{last_not, not_left, not_right}
 use Rattle.html_render_dom.proofs.LinkReads.{Agrees, IsOut, IsPut, counted_out, counted_put, is_out, is_put}
 
 -- spots by what links lead to them
@@ -46,11 +45,11 @@ pub before_is : (p c : ℕ) (xs ys : List ℕ) (l : Links) → IsChain p (xs ++ 
     link_at c l.previous ≡ number_at (last_spot (edge p) xs)
 before_is p c xs ys l chain = (run_right p (edge p) xs (c ∷ ys) l chain.run).0.before
 
-pub behind_is : (p c : ℕ) (xs ys : List ℕ) (l : Links) → IsChain p (xs ++ c ∷ ys) l →
+pub after_is : (p c : ℕ) (xs ys : List ℕ) (l : Links) → IsChain p (xs ++ c ∷ ys) l →
     link_at c l.next ≡ number_at (first_spot ys (edge p))
-behind_is p c xs [] l chain =
-    (subst (λ u. AreNeighbours u (edge p) l) (last_append (edge p) xs (c ∷ [])) chain.end).behind
-behind_is p c xs (y ∷ ys) l chain = (run_right p (edge p) xs (c ∷ y ∷ ys) l chain.run).1.1.0.behind
+after_is p c xs [] l chain =
+    (subst (λ u. AreNeighbours u (edge p) l) (last_append (edge p) xs (c ∷ [])) chain.end).trailing
+after_is p c xs (y ∷ ys) l chain = (run_right p (edge p) xs (c ∷ y ∷ ys) l chain.run).1.1.0.trailing
 
 -- a child has noted its parent
 pub down : (f : Forest) (l : Links) (n p : ℕ) → AreLinks f l → IsIn n (children_at p f) → link_at n l.parent ≡ Some p
@@ -79,7 +78,7 @@ alone_kept f l m p n k xs ys links agrees children off none =
     let no : ¬ (IsIn k (xs ++ ys)) = λ i. no_some (sym was ∙ down f l k p links (children k i)) in
     let alone = links.alone k was in (
       agrees.before (sibling k) (apart_first p k ys (λ i. no (in_right k xs ys i))) (λ e. off (ap holder e)) ∙ alone.0,
-      agrees.behind (sibling k) (apart_last p k xs (λ i. no (in_left k xs ys i))) (λ e. off (ap holder e)) ∙ alone.1,
+      agrees.trailing (sibling k) (apart_last p k xs (λ i. no (in_left k xs ys i))) (λ e. off (ap holder e)) ∙ alone.1,
     )
 
 in_more : (c n : ℕ) (xs ys : List ℕ) → IsIn c (xs ++ ys) → IsIn c (xs ++ n ∷ ys)
@@ -216,18 +215,18 @@ one_longer : (k : ℕ) (links : List (Option ℕ)) → length links ≡ k → le
 one_longer k links e = length-append links (None ∷ []) ∙ (omega (arith, e))
 
 -- links that lead where others do
-pub neighbours_same : (s t : Spot) (l m : Links) → ((u : Spot) → behind_of u m ≡ behind_of u l) →
+pub neighbours_same : (s t : Spot) (l m : Links) → ((u : Spot) → after_of u m ≡ after_of u l) →
     ((u : Spot) → before_of u m ≡ before_of u l) → AreNeighbours s t l → AreNeighbours s t m
-neighbours_same s t l m behinds befores w =
-    record { behind = behinds s ∙ w.behind; before = befores t ∙ w.before }
+neighbours_same s t l m trailings befores w =
+    record { trailing = trailings s ∙ w.trailing; before = befores t ∙ w.before }
 
-pub run_same : (p : ℕ) (s : Spot) (cs : List ℕ) (l m : Links) → ((u : Spot) → behind_of u m ≡ behind_of u l) →
+pub run_same : (p : ℕ) (s : Spot) (cs : List ℕ) (l m : Links) → ((u : Spot) → after_of u m ≡ after_of u l) →
     ((u : Spot) → before_of u m ≡ before_of u l) → ((k : ℕ) → link_at k m.parent ≡ link_at k l.parent) →
     IsRun p s cs l → IsRun p s cs m
-run_same p s [] l m behinds befores parents run = tt
-run_same p s (c ∷ cs) l m behinds befores parents run = (
-  neighbours_same s (sibling c) l m behinds befores run.0,
-  (parents c ∙ run.1.0, run_same p (sibling c) cs l m behinds befores parents run.1.1),
+run_same p s [] l m trailings befores parents run = tt
+run_same p s (c ∷ cs) l m trailings befores parents run = (
+  neighbours_same s (sibling c) l m trailings befores run.0,
+  (parents c ∙ run.1.0, run_same p (sibling c) cs l m trailings befores parents run.1.1),
 )
 
 pub linked_made : (f g : Forest) (l : Links) → AreLinks f l → nodes g ≡ suc (nodes f) →
@@ -241,17 +240,17 @@ linked_made f g l links size same = record {
     next = one_longer (nodes f) l.next links.counted.next ∙ sym size;
   };
   chains = λ p. subst (λ cs. IsChain p cs (with_no_links l)) (sym (same p)) (record {
-    run = run_same p (edge p) (children_at p f) l (with_no_links l) behinds befores parents (links.chains p).run;
-    end = neighbours_same (last_spot (edge p) (children_at p f)) (edge p) l (with_no_links l) behinds befores
+    run = run_same p (edge p) (children_at p f) l (with_no_links l) trailings befores parents (links.chains p).run;
+    end = neighbours_same (last_spot (edge p) (children_at p f)) (edge p) l (with_no_links l) trailings befores
         (links.chains p).end;
   });
   up = λ n p e. subst (IsIn n) (sym (same p)) (links.up n p (sym (parents n) ∙ e));
   alone = λ n e. let was = links.alone n (sym (parents n) ∙ e) in
       (no_link n l.previous ∙ was.0, no_link n l.next ∙ was.1);
 } where
-  behinds : (u : Spot) → behind_of u (with_no_links l) ≡ behind_of u l
-  behinds (edge p) = no_link p l.first
-  behinds (sibling n) = no_link n l.next
+  trailings : (u : Spot) → after_of u (with_no_links l) ≡ after_of u l
+  trailings (edge p) = no_link p l.first
+  trailings (sibling n) = no_link n l.next
 
   befores : (u : Spot) → before_of u (with_no_links l) ≡ before_of u l
   befores (edge p) = no_link p l.last

@@ -2,10 +2,10 @@
 use Rattle.std.proofs.Common.{◌≡◌, ℕ, Bool, true, false, List, Option, None, Some, refl, sym, ap, ◌∙◌, subst}
 use Rattle.html_lexemes.specs.declared.names.Attribute.{Attribute}
 use Rattle.html_lexemes.specs.declared.names.QualName.{QualName}
-use Rattle.html_forest.specs.Changes.{contents_number, made, made_element}
-use Rattle.html_forest.specs.Forest.{Forest, Holds, Kind, children_at, document, element, parent_of}
-use Rattle.html_forest.specs.Orders.{HasNoParent, IsForest, IsIn, of_child}
-use Rattle.html_forest.proofs.Nodes.{holds_child}
+use Rattle.tree_forest.specs.Changes.{contents_number, made, made_element}
+use Rattle.tree_forest.specs.Forest.{Forest, Holds, Kind, children_at, document, element, parent_of}
+use Rattle.tree_forest.specs.Orders.{HasNoParent, IsForest, IsIn, of_child}
+use Rattle.tree_forest.proofs.Nodes.{holds_child}
 use Rattle.html_render_dom.specs.Links.{AreLinks, IsLinked}
 use Rattle.html_render_dom.specs.Nodes.{forest_of, links_of}
 use Rattle.html_render_dom.specs.Siblings.{Links, link_at}

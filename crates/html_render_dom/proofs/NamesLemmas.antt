@@ -1,6 +1,6 @@
 -- A set keeps the names of attributes as more are added.
-use Rattle.std.proofs.Common.{◌≡◌, ℕ, ◌+◌, ◌<◌, Bool, true, false, ◌||◌, if◌then◌else◌, cond, List, [], ◌∷◌, ◌++◌}
-use Rattle.std.proofs.Common.{length, take, drop, slice_index_or, refl, sym, ap, subst, ◌∙◌, append_assoc, append-nil}
+use Rattle.std.proofs.Common.{◌≡◌, ◌+◌, ◌<◌, ◌||◌, if◌then◌else◌, [], ◌∷◌, ◌++◌, ◌∙◌, Bool, List, ap, append-nil}
+use Rattle.std.proofs.Common.{append_assoc, cond, drop, false, length, refl, slice_index_or, subst, sym, take, true, ℕ}
 use Rattle.std.proofs.Math.Bool.{or-false}
 use Rattle.std.proofs.lemmas.List.{take_more, drop_more}
 use Rattle.std.specs.Cmp.{both_ways}
@@ -11,7 +11,7 @@ use Rattle.std.specs.declared.hash.FoldHasher.{FoldHasher}
 use Rattle.html_lexemes.specs.contracts.names.QualNamePartialEq.TheImpl as names
 use Rattle.html_lexemes.specs.declared.names.Attribute.{Attribute}
 use Rattle.html_lexemes.specs.declared.names.QualName.{QualName}
-use Rattle.html_forest.specs.Changes.{has_name, with_missing}
+use Rattle.tree_forest.specs.Changes.{has_name, with_missing}
 use Rattle.html_render_dom.specs.Names.{HasNames}
 
 abbrev pub NameSet : Type 0
@@ -29,17 +29,17 @@ or_assoc : (x y z : Bool) → (x || (y || z)) ≡ ((x || y) || z)
 or_assoc true y z = refl
 or_assoc false y z = refl
 
-or_behind : (b o : Bool) → cond b true o ≡ (o || b)
-or_behind true true = refl
-or_behind true false = refl
-or_behind false true = refl
-or_behind false false = refl
+or_after : (b o : Bool) → cond b true o ≡ (o || b)
+or_after true true = refl
+or_after true false = refl
+or_after false true = refl
+or_after false false = refl
 
-named_behind : (name : QualName) (held : List Attribute) (a : Attribute) →
+named_after : (name : QualName) (held : List Attribute) (a : Attribute) →
     has_name name (held ++ a ∷ []) ≡ (has_name name held || names.eq-value.it name a.name)
-named_behind name [] a = or-false (names.eq-value.it name a.name)
-named_behind name (b ∷ held) a =
-    ap (λ v. names.eq-value.it name b.name || v) (named_behind name held a)
+named_after name [] a = or-false (names.eq-value.it name a.name)
+named_after name (b ∷ held) a =
+    ap (λ v. names.eq-value.it name b.name || v) (named_after name held a)
     ∙ or_assoc (names.eq-value.it name b.name) (has_name name held) (names.eq-value.it name a.name)
 
 -- no names
@@ -52,9 +52,9 @@ pub one_name_more : AreSame → (old new : NameSet) (held : List Attribute) (a :
 one_name_more same old new held a has updates = λ name.
     updates.0 name
     ∙ ap (cond (names.eq-value.it a.name name) true) (has name)
-    ∙ or_behind (names.eq-value.it a.name name) (has_name name held)
+    ∙ or_after (names.eq-value.it a.name name) (has_name name held)
     ∙ ap (λ b. has_name name held || b) (turned same a.name name)
-    ∙ sym (named_behind name held a)
+    ∙ sym (named_after name held a)
 
 -- the names of a front, and of one attribute more
 pub front_named : AreSame → (old new : NameSet) (attributes : List Attribute) (i : ℕ) (a : Attribute) →
@@ -67,7 +67,7 @@ front_named same old new attributes i a more is has updates =
 -- attributes are added to those at first; what is held takes the rest as those took all
 pub record IsPushing (first more held rest : List Attribute) (set : NameSet) : Type 0 where
   pub same : with_missing held rest ≡ with_missing first more
-  pub behind : (added : List Attribute) × (held ≡ first ++ added)
+  pub trailing : (added : List Attribute) × (held ≡ first ++ added)
   pub named : HasNames set held
 
 one_missing : (held rest : List Attribute) (a : Attribute) (b : Bool) →
@@ -85,7 +85,7 @@ added_more first held a false (added, is) =
 
 pub pushing_at : (first more : List Attribute) (set : NameSet) → HasNames set first →
     IsPushing first more first more set
-pushing_at first more set named = record { same = refl; behind = ([], sym (append-nil first)); named = named }
+pushing_at first more set named = record { same = refl; trailing = ([], sym (append-nil first)); named = named }
 
 pub pushed_on : (first more held rest next : List Attribute) (a : Attribute) (old new : NameSet) →
     IsPushing first more held (a ∷ rest) old →
@@ -93,8 +93,8 @@ pub pushed_on : (first more held rest next : List Attribute) (a : Attribute) (ol
     IsPushing first more next rest new
 pushed_on first more held rest next a old new pushing is named = record {
   same = ap (λ v. with_missing v rest) is ∙ sym (one_missing held rest a (has_name a.name held)) ∙ pushing.same;
-  behind = subst (λ v. (added : List Attribute) × (v ≡ first ++ added)) (sym is)
-      (added_more first held a (has_name a.name held) pushing.behind);
+  trailing = subst (λ v. (added : List Attribute) × (v ≡ first ++ added)) (sym is)
+      (added_more first held a (has_name a.name held) pushing.trailing);
   named = named;
 }
 

@@ -1,12 +1,11 @@
 -- What a write to one node leaves of all nodes.
-use Rattle.std.proofs.Common.{◌≡◌, ℕ, ◌<◌, Bool, false, List, [], ◌∷◌, Option, map, length}
-use Rattle.std.proofs.Common.{slice_index_or, slice_set, option_map, is_some, refl, sym, ap, ◌∙◌, zero}
-use Rattle.std.proofs.Common.{suc, arith}
+use Rattle.std.proofs.Common.{◌≡◌, ◌<◌, [], ◌∷◌, ◌∙◌, Bool, List, Option, ap, arith, false, is_some, length, map}
+use Rattle.std.proofs.Common.{option_map, refl, slice_index_or, slice_set, suc, sym, zero, ℕ}
 use Rattle.std.proofs.Math.Seq.{map-set_same}
 use Rattle.html_lexemes.specs.declared.names.Attribute.{Attribute}
 use Rattle.html_lexemes.specs.declared.names.QualName.{QualName}
-use Rattle.html_forest.specs.Changes.{changed, kind_with}
-use Rattle.html_forest.specs.Forest.{Kind, Node, element, node_at, text_of}
+use Rattle.tree_forest.specs.Changes.{changed, kind_with}
+use Rattle.tree_forest.specs.Forest.{Kind, Node, element, node_at, text_of}
 use Rattle.html_render_dom.specs.Nodes.{kind_of, links_in, node_in}
 use Rattle.html_render_dom.specs.Numbers.{number_of}
 use Rattle.html_render_dom.specs.Siblings.{Links}

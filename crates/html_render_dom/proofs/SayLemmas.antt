@@ -1,21 +1,21 @@
 -- The node right before a place, and characters that are put there.
-use Rattle.std.proofs.Common.{◌≡◌, ℕ, ◌<◌, ◌⊎◌, inl, inr, Bool, true, false, ◌==◌, List, [], ◌∷◌, Option, None, Some}
-use Rattle.std.proofs.Common.{refl, sym, ap, ◌∙◌, subst, arith, Result, Ok, Err, IfOk, IfSome, OnErr}
-use Rattle.std.proofs.Common.{chars, is_some, length, option_map}
+use Rattle.std.proofs.Common.{◌≡◌, ◌<◌, ◌⊎◌, ◌==◌, [], ◌∷◌, ◌∙◌, Bool, Err, IfOk, IfSome, List, None, Ok, OnErr, Option}
+use Rattle.std.proofs.Common.{Result, Some, ap, arith, chars, false, inl, inr, is_some, length, option_map, refl, subst}
+use Rattle.std.proofs.Common.{sym, true, ℕ}
 use Rattle.std.specs.Str.{IsUtf8}
 use Rattle.std.proofs.lemmas.Bool.{cond-true, cond-false, eqb-true}
-use Rattle.reference_tables.proofs.NameTests.{no_chars, some_chars}
-use Rattle.html_forest.specs.Changes.{changed, made, saying}
-use Rattle.html_forest.specs.Conditions.{CanPut}
-use Rattle.html_forest.specs.Forest.{Forest, Holds, children_at, kind_at, nodes, parent_of, text, text_of}
-use Rattle.html_forest.specs.Orders.{IsForest, IsIn, of_child}
-use Rattle.html_forest.specs.Places.{Place, before, below, last_of, neighbour, node, one_before}
-use Rattle.html_forest.specs.Places.{put_node, put_words, siblings_of}
-use Rattle.html_forest.proofs.LawNodes.{parent_is}
-use Rattle.html_forest.proofs.LawTexts.{new_text, new_text_behind, text_more}
-use Rattle.html_forest.proofs.MovedNodes.{said_kept}
-use Rattle.html_forest.proofs.Nodes.{kept, size_changed}
-use Rattle.html_forest.proofs.ParentChanges.{child_of_parent}
+use Rattle.lex_base.proofs.NameTests.{no_chars, some_chars}
+use Rattle.tree_forest.specs.Changes.{changed, made, saying}
+use Rattle.tree_forest.specs.Conditions.{CanPut}
+use Rattle.tree_forest.specs.Forest.{Forest, Holds, children_at, kind_at, nodes, parent_of, text, text_of}
+use Rattle.tree_forest.specs.Orders.{IsForest, IsIn, of_child}
+use Rattle.tree_forest.specs.Places.{Place, before, below, last_of, neighbour, node, one_before, put_node, put_words}
+use Rattle.tree_forest.specs.Places.{siblings_of}
+use Rattle.tree_forest.proofs.LawNodes.{parent_is}
+use Rattle.tree_forest.proofs.LawTexts.{new_text, new_text_after, text_more}
+use Rattle.tree_forest.proofs.MovedNodes.{said_kept}
+use Rattle.tree_forest.proofs.Nodes.{kept, size_changed}
+use Rattle.tree_forest.proofs.ParentChanges.{child_of_parent}
 use Rattle.html_render_dom.proofs.LinkChanges.{down, linked_same}
 use Rattle.html_render_dom.proofs.LinkedNodes.{linked_at}
 use Rattle.html_render_dom.specs.Links.{AreLinks, IsLinked}
@@ -127,11 +127,11 @@ put_at : (place : Place) (c : ℕ) (cs : List ℕ) (f : Forest) (o : Option Hand
     option_map number_of o ≡ neighbour place f → is_some_text o f ≡ false →
     put_node place (nodes f) (made (text (c ∷ cs)) f) ≡ put_words place (c ∷ cs) f
 put_at place c cs f None e none = sym (new_text place c cs f (sym e))
-put_at place c cs f (Some h) e none = behind (text_of (kind_at (number_of h) f)) refl none where
-  behind : (said : Option (List ℕ)) → text_of (kind_at (number_of h) f) ≡ said → is_some said ≡ false →
+put_at place c cs f (Some h) e none = trailing (text_of (kind_at (number_of h) f)) refl none where
+  trailing : (said : Option (List ℕ)) → text_of (kind_at (number_of h) f) ≡ said → is_some said ≡ false →
       put_node place (nodes f) (made (text (c ∷ cs)) f) ≡ put_words place (c ∷ cs) f
-  behind None is none = sym (new_text_behind place c cs (number_of h) f (sym e) is)
-  behind (Some said) is none = absurd (cc)
+  trailing None is none = sym (new_text_after place c cs (number_of h) f (sym e) is)
+  trailing (Some said) is none = absurd (cc)
 
 pub says_more : (place : Place) (bytes words spoken : List ℕ) (o : Option Handle) (f g : Forest) →
     false ≡ (length bytes == 0) → IsUtf8 bytes → chars bytes ≡ words → option_map number_of o ≡ neighbour place f →

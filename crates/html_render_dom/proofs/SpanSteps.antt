@@ -1,12 +1,11 @@
 -- One child more is given, from either end.
-use Rattle.std.proofs.Common.{◌≡◌, ℕ, ◌+◌, ◌<◌, ◌≤◌, ◌⊎◌, inl, inr, zero, suc, true, false, List, [], ◌∷◌, ◌++◌}
-use Rattle.std.proofs.Common.{Option, None}
-use Rattle.std.proofs.Common.{Some, length, option_map, refl, sym, ap, ◌∙◌, subst, arith}
+use Rattle.std.proofs.Common.{◌≡◌, ◌+◌, ◌<◌, ◌≤◌, ◌⊎◌, [], ◌∷◌, ◌++◌, ◌∙◌, List, None, Option, Some, ap, arith, false}
+use Rattle.std.proofs.Common.{inl, inr, length, option_map, refl, subst, suc, sym, true, zero, ℕ}
 use Rattle.std.proofs.lemmas.Bool.{cond-true, cond-false, eq-eqb, eqb-true, ne_eqb}
 use Rattle.std.proofs.lemmas.List.{length-append, length-map}
 use Rattle.std.specs.Iterator.{MakesProgress, item_count}
-use Rattle.html_forest.specs.Orders.{AreDistinct, IsIn}
-use Rattle.html_render_dom.specs.Siblings.{IsChain, IsRun, Links, before_of, behind_of, edge, last_spot, link_at}
+use Rattle.tree_forest.specs.Orders.{AreDistinct, IsIn}
+use Rattle.html_render_dom.specs.Siblings.{IsChain, IsRun, Links, after_of, before_of, edge, last_spot, link_at}
 use Rattle.html_render_dom.specs.Siblings.{number_at, sibling}
 use Rattle.html_render_dom.specs.Nodes.{kind_of, kinds_in, links_in}
 use Rattle.html_render_dom.specs.Spans.{IsLeft, IsSpan, IsSpanFrom, is_at, span}
@@ -40,7 +39,7 @@ span_from l (suc steps) c [] back s d h = ap (λ v. c ∷ v)
 span_from l (suc steps) c (e ∷ cs) back s d h = ap (λ v. c ∷ v)
     (cond-false (is_at c back) _ _ (ap (is_at c) (span_back l e cs back s.1)
     ∙ ne_eqb c (last_number e cs) (λ is. d.0 (subst (λ k. IsIn k (e ∷ cs)) (sym is) (last_in e cs))))
-    ∙ (ap (λ o. span l.next steps o back) s.0.behind ∙ span_from l steps e cs back s.1 d.1 (omega arith)))
+    ∙ (ap (λ o. span l.next steps o back) s.0.trailing ∙ span_from l steps e cs back s.1 d.1 (omega arith)))
 
 pub span_is : (l : Links) (steps : ℕ) (front back : Option ℕ) (cs : List ℕ) → IsSpan l front cs back → AreDistinct cs →
     length cs ≤ steps → span l.next steps front back ≡ cs
@@ -105,7 +104,7 @@ first_of_more l k n front back size is at w = by w.numbers w.spans w.distinct w.
           let no : false ≡ true = at ∙ (ap (is_at n) s.1 ∙ eq-eqb n c same) in absurd (cc)
       by (c ∷ e ∷ cs) s d within whole =
           let same : c ≡ n = same_some (sym s.0 ∙ is) in
-          let next : link_at n l.next ≡ Some e = ap (λ v. link_at v l.next) (sym same) ∙ s.1.0.behind in
+          let next : link_at n l.next ≡ Some e = ap (λ v. link_at v l.next) (sym same) ∙ s.1.0.trailing in
           let left : IsLeft l k (link_at n l.next) back = record {
             numbers = e ∷ cs;
             spans = (next, s.1.1);
@@ -193,10 +192,10 @@ run_span p c [] l back run e = e
 run_span p c (d ∷ cs) l back run e = (run.0, run_span p d cs l back run.1.1 e)
 
 pub chain_span : (p : ℕ) (cs : List ℕ) (l : Links) (front back : Option ℕ) → IsChain p cs l →
-    front ≡ behind_of (edge p) l → back ≡ before_of (edge p) l → IsSpan l front cs back
-chain_span p [] l front back chain e h = (e ∙ chain.end.behind, h ∙ chain.end.before)
+    front ≡ after_of (edge p) l → back ≡ before_of (edge p) l → IsSpan l front cs back
+chain_span p [] l front back chain e h = (e ∙ chain.end.trailing, h ∙ chain.end.before)
 chain_span p (c ∷ cs) l front back chain e h =
-    (e ∙ chain.run.0.behind, run_span p c cs l back chain.run.1.1 (h ∙ chain.end.before))
+    (e ∙ chain.run.0.trailing, run_span p c cs l back chain.run.1.1 (h ∙ chain.end.before))
 
 -- each call that gives one leaves fewer
 pub goes_first : {H : Type 0} (number : H → ℕ) (can : List ℕ → Type 0) → ((t : List ℕ) → can t) → (s t : List ℕ)

@@ -6,7 +6,7 @@ use Rattle.std.specs.declared.hash.FoldHasher.{FoldHasher}
 use Rattle.html_lexemes.specs.contracts.names.QualNamePartialEq.TheImpl as names
 use Rattle.html_lexemes.specs.declared.names.Attribute.{Attribute}
 use Rattle.html_lexemes.specs.declared.names.QualName.{QualName}
-use Rattle.html_forest.specs.Changes.{has_name}
+use Rattle.tree_forest.specs.Changes.{has_name}
 use Rattle.html_render_dom.specs.declared.node.NodeData.{NodeData}
 use Rattle.html_render_dom.specs.declared.node.NodeData.TheVariants as data_of
 

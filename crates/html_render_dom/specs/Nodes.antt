@@ -1,9 +1,8 @@
 -- What the nodes in memory mean: what each is, its links, and the forest to which they lead.
-use Rattle.std.specs.Prelude.{◌≡◌, ℕ, zero, suc, List, [], ◌∷◌, ◌++◌, Option, None, Some, length, map, option_map}
-use Rattle.std.specs.Prelude.{Bool, false}
-use Rattle.std.specs.Prelude.{is_some}
-use Rattle.html_forest.specs.Forest.{Forest, Kind, Node, comment, doctype, document, element, instruction, kind_at}
-use Rattle.html_forest.specs.Forest.{text, text_of}
+use Rattle.std.specs.Prelude.{◌≡◌, [], ◌∷◌, ◌++◌, Bool, List, None, Option, Some, false, is_some, length, map}
+use Rattle.std.specs.Prelude.{option_map, suc, zero, ℕ}
+use Rattle.tree_forest.specs.Forest.{Forest, Kind, Node, comment, doctype, document, element, instruction, kind_at}
+use Rattle.tree_forest.specs.Forest.{text, text_of}
 use Rattle.html_render_dom.specs.Numbers.{number_of}
 use Rattle.html_render_dom.specs.Siblings.{Links, Spot, link_at, spot_of}
 use Rattle.html_render_dom.specs.declared.node.Handle.{Handle}

@@ -1,7 +1,7 @@
 -- Children that stand side by side, from one of them to another.
-use Rattle.std.specs.Prelude.{◌≡◌, ℕ, ◌<◌, Bool, false, List, [], ◌∷◌, Option, None, Some, zero, suc, ◌==◌}
-use Rattle.std.specs.Prelude.{if◌then◌else◌}
-use Rattle.html_forest.specs.Orders.{AreDistinct, IsIn}
+use Rattle.std.specs.Prelude.{◌≡◌, ◌<◌, [], ◌∷◌, ◌==◌, if◌then◌else◌, Bool, List, None, Option, Some, false, suc, zero}
+use Rattle.std.specs.Prelude.{ℕ}
+use Rattle.tree_forest.specs.Orders.{AreDistinct, IsIn}
 use Rattle.html_render_dom.specs.Siblings.{AreNeighbours, Links, link_at, sibling}
 
 abbrev pub is_at : ℕ → Option ℕ → Bool

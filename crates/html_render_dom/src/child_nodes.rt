@@ -1,7 +1,7 @@
 //! The children of a node, one by one.
 ghost use Rattle.std.specs.Prelude.{◌≡◌, [], option_map};
 ghost use Rattle.std.specs.Iterator.{YieldsFirstBy, YieldsLastBy, item_count};
-ghost use Rattle.html_forest.specs.Forest.{Holds, children_at};
+ghost use Rattle.tree_forest.specs.Forest.{Holds, children_at};
 ghost use Rattle.html_render_dom.specs.ChildNodes.{children_left};
 ghost use Rattle.html_render_dom.specs.Links.{IsLinked};
 ghost use Rattle.html_render_dom.specs.Nodes.{forest_of};
@@ -44,7 +44,7 @@ impl Nodes {
         requires holds { Holds (number_of target) (forest_of self.now) }
         ensures { children_left result ≡ children_at (number_of target) (forest_of self.now) }
     {
-        let front = self.child_behind(target, None);
+        let front = self.child_after(target, None);
         let back = self.child_before(target, None);
         ChildNodes {
             nodes: self,

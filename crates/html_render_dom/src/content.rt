@@ -1,7 +1,7 @@
 //! What a node is, and the names of the attributes of an element that was given some.
 ghost use Rattle.std.specs.Prelude.{◌≡◌, true, false, IfOk, OnErr, OnOk, chars, is_some};
-ghost use Rattle.html_forest.specs.Changes.{kind_with, saying_kind};
-ghost use Rattle.html_forest.specs.Forest.{text_of};
+ghost use Rattle.tree_forest.specs.Changes.{kind_with, saying_kind};
+ghost use Rattle.tree_forest.specs.Forest.{text_of};
 ghost use Rattle.html_render_dom.specs.Nodes.{kind_of};
 
 use crate::names::add_missing;

@@ -10,7 +10,7 @@
 //! - `get_parent`, `nth_child`, `get_node_by_path`, `element_name`, `attribute`: the parent in the forest; the
 //!   child at an index, from 0; the node to which such steps lead from the document, or none; the name of an
 //!   element; the value of an element's attribute of a name
-//! - `computed_style`: of an element what `style_cascade` computes for its local name (`IsComputed`); of any other
+//! - `computed_style`: of an element what `dom_styles` computes for its local name (`IsComputed`); of any other
 //!   node, and of a handle whose number this tree has not, all is unset
 //! - `attribute_by_word`: the value of an element's first attribute with a local name that is given as a word of
 //!   ASCII, or none; it takes no memory
@@ -24,7 +24,7 @@
 //! that it could judge 31 were refused; it let through calls that refuse as `Failed`, which that clause refuses
 //! now, and the right body of `get_document`.
 //!
-//! Tested (`tree_rows`): generic functions over any `TreeSink` make each of its calls, and by contract leave a sink
+//! Tested (`test_trees`): generic functions over any `TreeSink` make each of its calls, and by contract leave a sink
 //! that began as a page alone with a forest that is written down (`Pages.antt`): an outline, remarks, an element
 //! moved before its own next sibling and another to the end, fostering with and without a parent, children given to
 //! an element that has some and to one that has none, an only child taken out, attributes added twice, a template's
@@ -54,6 +54,6 @@ mod styles;
 
 pub use child_nodes::ChildNodes;
 pub use dom::RcDom;
-pub use html_forest;
+pub use dom_styles;
 pub use node::{Handle, NodeData};
-pub use style_cascade;
+pub use tree_forest;

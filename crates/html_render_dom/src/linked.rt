@@ -1,26 +1,26 @@
 //! Changes of nodes that keep them a forest, with each parent noted.
-ghost use Rattle.std.specs.Prelude.{◌≡◌, [], ◌∷◌, ◌++◌, true, false, IfOk, IfSome, None, OnErr, OnOk, Some};
-ghost use Rattle.std.specs.Prelude.{chars, option_map};
-ghost use Rattle.html_forest.specs.Changes.{changed, contents_number, detached, made, made_element, reparented};
-ghost use Rattle.html_forest.specs.Changes.{saying, with_attributes};
-ghost use Rattle.html_forest.specs.Conditions.{CanMove, CanReparent, IsPlace};
-ghost use Rattle.html_forest.specs.Forest.{Holds, document, element_of, nodes};
-ghost use Rattle.html_forest.specs.Places.{before, below, neighbour, put_node, put_words};
+ghost use Rattle.std.specs.Prelude.{◌≡◌, [], ◌∷◌, ◌++◌, IfOk, IfSome, None, OnErr, OnOk, Some, chars, false};
+ghost use Rattle.std.specs.Prelude.{option_map, true};
+ghost use Rattle.tree_forest.specs.Changes.{changed, contents_number, detached, made, made_element, reparented, saying};
+ghost use Rattle.tree_forest.specs.Changes.{with_attributes};
+ghost use Rattle.tree_forest.specs.Conditions.{CanMove, CanReparent, IsPlace};
+ghost use Rattle.tree_forest.specs.Forest.{Holds, document, element_of, nodes};
+ghost use Rattle.tree_forest.specs.Places.{before, below, neighbour, put_node, put_words};
 ghost use Rattle.html_render_dom.specs.Links.{IsLinked};
 ghost use Rattle.html_render_dom.specs.Nodes.{forest_of, is_some_text, kind_of, kinds_of, links_of, with_no_links};
 ghost use Rattle.html_render_dom.specs.Numbers.{number_of};
 
 use crate::node::{Handle, NodeData};
 use crate::nodes::Nodes;
-use html_forest::{
+use html_lexemes::{Attributes, QualName, Text};
+use std::alloc::AllocError;
+use tree_forest::{
     ElementFlags, a_node_stands_where_it_was_put, a_node_taken_out_stands_nowhere,
     attributes_are_added, attributes_keep_a_forest, how_many_nodes_there_are,
     making_keeps_a_forest, putting_keeps_a_forest, reparenting_keeps_a_forest,
     taking_out_keeps_a_forest, what_a_parent_alone_is_changed_by, what_was_made_may_be_put,
     what_was_not_named_stays, where_children_stand,
 };
-use html_lexemes::{Attributes, QualName, Text};
-use std::alloc::AllocError;
 
 impl Nodes {
     /// A node more, which stands nowhere and has no contents of its own.
@@ -151,7 +151,7 @@ impl Nodes {
         where_children_stand();
         if let Some(parent) = self.parent(target) {
             let previous = self.child_before(parent, Some(target));
-            let next = self.child_behind(parent, Some(target));
+            let next = self.child_after(parent, Some(target));
             self.take(parent, previous, next, target);
         }
     }
@@ -292,7 +292,7 @@ impl Nodes {
         what_was_not_named_stays();
         how_many_nodes_there_are();
         where_children_stand();
-        if let Some(first) = self.child_behind(from, None) {
+        if let Some(first) = self.child_after(from, None) {
             let last = self.child_before(from, None);
             let before = self.child_before(to, None);
             self.link_children(to, Some(first));

@@ -1,7 +1,7 @@
 //! Attributes whose names an element lacks.
 ghost use Rattle.std.specs.Prelude.{◌≡◌, ◌∷◌, ◌++◌, [], List, IfOk, OnErr, OnOk, if◌then◌else◌};
 ghost use Rattle.std.specs.Option.{ForSome};
-ghost use Rattle.html_forest.specs.Changes.{has_name, with_missing};
+ghost use Rattle.tree_forest.specs.Changes.{has_name, with_missing};
 ghost use Rattle.html_lexemes.specs.declared.names.Attribute.{Attribute as SeenAttribute};
 ghost use Rattle.html_render_dom.specs.Names.{HasNames};
 

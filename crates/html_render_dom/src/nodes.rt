@@ -1,14 +1,14 @@
-ghost use Rattle.std.specs.Prelude.{◌≡◌, ℕ, ◌+◌, ◌<◌, [], ◌∷◌, ◌++◌, true, false, IfOk, None, OnErr, OnOk, Some};
-ghost use Rattle.std.specs.Prelude.{chars, is_some, length, option_map};
+ghost use Rattle.std.specs.Prelude.{◌≡◌, ◌+◌, ◌<◌, [], ◌∷◌, ◌++◌, IfOk, None, OnErr, OnOk, Some, chars, false, is_some};
+ghost use Rattle.std.specs.Prelude.{length, option_map, true, ℕ};
 ghost use Rattle.std.specs.Bool.{nat_lt};
-ghost use Rattle.html_forest.specs.Changes.{changed, saying, with_attributes};
-ghost use Rattle.html_forest.specs.Forest.{Holds, kind_at, nodes, text_of};
-ghost use Rattle.html_forest.specs.Orders.{IsIn};
-ghost use Rattle.html_render_dom.specs.Nodes.{IsFollowed, chain, forest_of, kind_of, kinds_of, links_of};
-ghost use Rattle.html_render_dom.specs.Nodes.{spot_at, with_no_links, with_parents};
+ghost use Rattle.tree_forest.specs.Changes.{changed, saying, with_attributes};
+ghost use Rattle.tree_forest.specs.Forest.{Holds, kind_at, nodes, text_of};
+ghost use Rattle.tree_forest.specs.Orders.{IsIn};
+ghost use Rattle.html_render_dom.specs.Nodes.{IsFollowed, chain, forest_of, kind_of, kinds_of, links_of, spot_at};
+ghost use Rattle.html_render_dom.specs.Nodes.{with_no_links, with_parents};
 ghost use Rattle.html_render_dom.specs.Numbers.{number_of};
-ghost use Rattle.html_render_dom.specs.Siblings.{before_of, behind_of, given, holder, joined, link_at, put_between};
-ghost use Rattle.html_render_dom.specs.Siblings.{taken_from, with_before, with_behind, with_parent};
+ghost use Rattle.html_render_dom.specs.Siblings.{after_of, before_of, given, holder, joined, link_at, put_between};
+ghost use Rattle.html_render_dom.specs.Siblings.{taken_from, with_after, with_before, with_parent};
 ghost use Rattle.html_render_dom.specs.declared.node.Node.{Node as HeldNode};
 
 use crate::content::Content;
@@ -122,9 +122,9 @@ impl Nodes {
     }
 
     /// The child right after a spot.
-    pub(crate) fn child_behind(&self, parent: Handle, spot: Option<Handle>) -> Option<Handle>
+    pub(crate) fn child_after(&self, parent: Handle, spot: Option<Handle>) -> Option<Handle>
         requires { holder (spot_at parent spot) < length (kinds_of self.now) }
-        ensures { option_map number_of result ≡ behind_of (spot_at parent spot) (links_of self.now) }
+        ensures { option_map number_of result ≡ after_of (spot_at parent spot) (links_of self.now) }
     {
         match spot {
             None => self.items[parent.number as usize].first,
@@ -152,10 +152,10 @@ impl Nodes {
         self.items[target.number as usize].parent = parent;
     }
 
-    pub(crate) fn set_behind(&mut self, parent: Handle, spot: Option<Handle>, to: Option<Handle>)
+    pub(crate) fn set_after(&mut self, parent: Handle, spot: Option<Handle>, to: Option<Handle>)
         requires { holder (spot_at parent spot) < length (kinds_of self.old) }
         ensures kinds { kinds_of self.new ≡ kinds_of self.old }
-        ensures links { links_of self.new ≡ with_behind (spot_at parent spot) (option_map number_of to)
+        ensures links { links_of self.new ≡ with_after (spot_at parent spot) (option_map number_of to)
             (links_of self.old) }
     {
         match spot {
@@ -177,15 +177,15 @@ impl Nodes {
     }
 
     /// Puts two spots of a node's children beside each other.
-    pub(crate) fn join(&mut self, parent: Handle, before: Option<Handle>, behind: Option<Handle>)
+    pub(crate) fn join(&mut self, parent: Handle, before: Option<Handle>, trailing: Option<Handle>)
         requires before { holder (spot_at parent before) < length (kinds_of self.old) }
-        requires behind { holder (spot_at parent behind) < length (kinds_of self.old) }
+        requires trailing { holder (spot_at parent trailing) < length (kinds_of self.old) }
         ensures kinds { kinds_of self.new ≡ kinds_of self.old }
         ensures links { links_of self.new
-            ≡ joined (spot_at parent before) (spot_at parent behind) (links_of self.old) }
+            ≡ joined (spot_at parent before) (spot_at parent trailing) (links_of self.old) }
     {
-        self.set_behind(parent, before, behind);
-        self.set_before(parent, behind, before);
+        self.set_after(parent, before, trailing);
+        self.set_before(parent, trailing, before);
     }
 
     /// Puts a node between two spots below a parent.
@@ -193,19 +193,19 @@ impl Nodes {
         &mut self,
         parent: Handle,
         before: Option<Handle>,
-        behind: Option<Handle>,
+        trailing: Option<Handle>,
         child: Handle,
     )
         requires before { holder (spot_at parent before) < length (kinds_of self.old) }
-        requires behind { holder (spot_at parent behind) < length (kinds_of self.old) }
+        requires trailing { holder (spot_at parent trailing) < length (kinds_of self.old) }
         requires child { number_of child < length (kinds_of self.old) }
         ensures kinds { kinds_of self.new ≡ kinds_of self.old }
         ensures links { links_of self.new ≡ put_between (number_of parent) (spot_at parent before)
-            (spot_at parent behind) (number_of child)
+            (spot_at parent trailing) (number_of child)
             (links_of self.old) }
     {
         self.join(parent, before, Some(child));
-        self.join(parent, Some(child), behind);
+        self.join(parent, Some(child), trailing);
         self.set_parent(child, Some(parent));
     }
 
@@ -214,18 +214,18 @@ impl Nodes {
         &mut self,
         parent: Handle,
         before: Option<Handle>,
-        behind: Option<Handle>,
+        trailing: Option<Handle>,
         child: Handle,
     )
         requires before { holder (spot_at parent before) < length (kinds_of self.old) }
-        requires behind { holder (spot_at parent behind) < length (kinds_of self.old) }
+        requires trailing { holder (spot_at parent trailing) < length (kinds_of self.old) }
         requires child { number_of child < length (kinds_of self.old) }
         ensures kinds { kinds_of self.new ≡ kinds_of self.old }
-        ensures links { links_of self.new ≡ taken_from (spot_at parent before) (spot_at parent behind) (number_of child)
+        ensures links { links_of self.new ≡ taken_from (spot_at parent before) (spot_at parent trailing) (number_of child)
             (links_of self.old) }
     {
-        self.join(parent, before, behind);
-        self.set_behind(parent, Some(child), None);
+        self.join(parent, before, trailing);
+        self.set_after(parent, Some(child), None);
         self.set_before(parent, Some(child), None);
         self.set_parent(child, None);
     }
@@ -274,7 +274,7 @@ impl Nodes {
     {
         self.join(to, before, Some(first));
         self.set_before(to, None, last);
-        self.set_behind(from, None, None);
+        self.set_after(from, None, None);
         self.set_before(from, None, None);
     }
 

@@ -1,16 +1,16 @@
 ghost use Rattle.std.specs.Prelude.{◌≡◌, [], ◌∷◌, ◌++◌, false, IfErr, IfOk, OnErr, OnOk};
 ghost use Rattle.html_lexemes.specs.declared.fault.ParseFault.TheVariants.{Memory};
-ghost use Rattle.html_forest.specs.Changes.{detached, made, made_element, reparented, with_attributes};
-ghost use Rattle.html_forest.specs.Conditions.{CanPut, CanReparent};
-ghost use Rattle.html_forest.specs.Forest.{IsElement, comment, instruction, nodes};
-ghost use Rattle.html_forest.specs.Places.{based_on, before, below, put, with_doctype};
-ghost use Rattle.html_forest.specs.Sinks.{child_of};
+ghost use Rattle.tree_forest.specs.Changes.{detached, made, made_element, reparented, with_attributes};
+ghost use Rattle.tree_forest.specs.Conditions.{CanPut, CanReparent};
+ghost use Rattle.tree_forest.specs.Forest.{IsElement, comment, instruction, nodes};
+ghost use Rattle.tree_forest.specs.Places.{based_on, before, below, put, with_doctype};
+ghost use Rattle.tree_forest.specs.Sinks.{child_of};
 ghost use Rattle.html_render_dom.specs.Numbers.{number_of};
 
 use crate::dom::RcDom;
 use crate::node::{Handle, NodeData};
-use html_forest::{ElementFlags, NodeOrText, QuirksMode, TreeSink, where_children_stand};
 use html_lexemes::{Attribute, Attributes, ErrorMessage, ParseFault, QualName, Text};
+use tree_forest::{ElementFlags, NodeOrText, QuirksMode, TreeSink, where_children_stand};
 
 impl TreeSink for RcDom {
     type Handle = Handle;
@@ -43,8 +43,8 @@ impl TreeSink for RcDom {
         ensures forest { self.new.forest ≡ self.old.forest }
         ensures quirks { self.new.quirks ≡ self.old.quirks }
         ensures memory { IfErr result (λ e. e ≡ Memory) }
-        ensures told { OnOk result (self.new.errors ≡ self.old.errors ++ message ∷ []) }
-        ensures untold { OnErr result (self.new.errors ≡ self.old.errors) }
+        ensures emitted { OnOk result (self.new.errors ≡ self.old.errors ++ message ∷ []) }
+        ensures unemitted { OnErr result (self.new.errors ≡ self.old.errors) }
     {
         self.errors.push(message)?;
         Ok(())

@@ -1,19 +1,19 @@
 -- A page whose renderers keep no annotations is that of renderers that keep them, but for these.
-use Rattle.std.proofs.Common.{◌≡◌, ℕ, List, [], ◌∷◌, ◌++◌, Option, None, Some, map, sym, ap, ◌∙◌, refl, subst, false}
-use Rattle.std.proofs.Common.{◌⊎◌, inl, inr}
+use Rattle.std.proofs.Common.{◌≡◌, [], ◌∷◌, ◌++◌, ◌∙◌, ◌⊎◌, List, None, Option, Some, ap, false, inl, inr, map, refl}
+use Rattle.std.proofs.Common.{subst, sym, ℕ}
 use Rattle.std.specs.Option.{option_and_then, option_map}
 use Rattle.block_renderer.specs.Footnotes.{add_footnotes}
-use Rattle.renderer_calls.specs.Bare.{bare_of, no_tag}
-use Rattle.renderer_calls.specs.Calls.{Call, call_of, starts_block, step}
-use Rattle.renderer_calls.specs.Renderers.{Marking, Sub, lines_of_sub, new_sub, with_block_started, with_held}
-use Rattle.renderer_calls.specs.Texts.{text_of_lines}
-use Rattle.tagged_lines.specs.Tagged.{Item, characters}
+use Rattle.block_trait.specs.Bare.{bare_of, no_tag}
+use Rattle.block_trait.specs.Calls.{Call, call_of, starts_block, step}
+use Rattle.block_trait.specs.Renderers.{Marking, Sub, lines_of_sub, new_sub, with_block_started, with_held}
+use Rattle.block_trait.specs.Texts.{text_of_lines}
+use Rattle.text_lines.specs.Tagged.{Item, characters}
 use Rattle.text_borders.specs.Lines.{BlockLine, line_shown}
 use Rattle.text_borders.specs.Retagged.{reline}
-use Rattle.text_marks.specs.Marks.{page_end, seen_lines}
+use Rattle.text_decorators.specs.Marks.{page_end, seen_lines}
 use Rattle.render_values.specs.Values.{Values}
-use Rattle.walk_laws.specs.BareLaws.{AreLaidBare, bare_parts}
-use Rattle.walk_laws.specs.Parts.{Parts, whole_page}
+use Rattle.layout_laws.specs.BareLaws.{AreLaidBare, bare_parts}
+use Rattle.text_block_renderer.specs.Parts.{Parts, whole_page}
 use Rattle.html_render_tree.specs.PageLines.{Setting, closed_page, laid_as, laid_page, lines_text, noted, page_lines}
 use Rattle.html_render_tree.specs.PageLines.{page_text, renderer_lines, with_notes, with_targets}
 use Rattle.html_render_tree.proofs.OptionLemmas.{bound_as, none_bound, none_mapped, some_mapped}

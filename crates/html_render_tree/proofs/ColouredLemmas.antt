@@ -1,9 +1,9 @@
 -- Strings and lines that a map has made something of so far, and what it will make of the others.
-use Rattle.std.proofs.Common.{◌≡◌, ◌∙◌, ◌++◌, ◌∷◌, [], ℕ, List, Vec, Global, refl, sym, ap, subst, append-nil}
-use Rattle.std.proofs.Common.{append_assoc, arith, length, string_bytes}
-use Rattle.tagged_lines.specs.Tagged.{line_strings}
-use Rattle.tagged_lines.specs.declared.tagged_line.TaggedLine.{TaggedLine}
-use Rattle.tagged_lines.specs.declared.tagged_string.TaggedString.{TaggedString}
+use Rattle.std.proofs.Common.{◌≡◌, ◌∙◌, ◌++◌, ◌∷◌, [], Global, List, Vec, ap, append-nil, append_assoc, arith, length}
+use Rattle.std.proofs.Common.{refl, string_bytes, subst, sym, ℕ}
+use Rattle.text_lines.specs.Tagged.{line_strings}
+use Rattle.text_lines.specs.declared.tagged_line.TaggedLine.{TaggedLine}
+use Rattle.text_lines.specs.declared.tagged_string.TaggedString.{TaggedString}
 use Rattle.html_render_tree.specs.Coloured.{AreColoured, AreColouredLines}
 
 module _ {T : Type 0} (Makes : List T → List ℕ → List ℕ → Type 0) where

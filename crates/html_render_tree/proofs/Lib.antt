@@ -1,8 +1,8 @@
 mod BareLemmas
 mod ColouredLemmas
 pub mod LineLemmas
+pub mod NumberLemmas
 pub mod OptionLemmas
 mod PageLemmas
-pub mod TextWidths
-pub mod NumberLemmas
 pub mod SeenRules
+pub mod TextWidths

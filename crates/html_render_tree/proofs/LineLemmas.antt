@@ -1,14 +1,14 @@
 -- Lines of a page, and those after it.
-use Rattle.std.proofs.Common.{◌≡◌, ℕ, List, Option, [], ◌∷◌, ◌++◌, append-nil, append_assoc, ap, arith, length}
-use Rattle.std.proofs.Common.{Err, IfOk, Ok, Result, map, refl, subst, sym, ◌∙◌}
+use Rattle.std.proofs.Common.{◌≡◌, [], ◌∷◌, ◌++◌, ◌∙◌, Err, IfOk, List, Ok, Option, Result, ap, append-nil}
+use Rattle.std.proofs.Common.{append_assoc, arith, length, map, refl, subst, sym, ℕ}
 use Rattle.std.specs.Prelude.{if◌then◌else◌}
 use Rattle.std.proofs.lemmas.List.{map-append}
 use Rattle.std.specs.Option.{option_and_then}
 use Rattle.block_renderer.specs.Footnotes.{add_footnotes}
-use Rattle.link_targets.specs.Targets.{noted_targets}
-use Rattle.renderer_calls.specs.Renderers.{Marking, Sub, with_block_started}
-use Rattle.tagged_lines.specs.Tagged.{Item}
-use Rattle.walk_laws.specs.Parts.{Parts}
+use Rattle.text_footnotes.specs.Targets.{noted_targets}
+use Rattle.block_trait.specs.Renderers.{Marking, Sub, with_block_started}
+use Rattle.text_lines.specs.Tagged.{Item}
+use Rattle.text_block_renderer.specs.Parts.{Parts}
 use Rattle.html_render_tree.specs.PageLines.{Setting, noted, with_notes, with_targets}
 
 pub notes_are : {H A : Type 0} (notes : List (List (Item A))) (s : Sub H A) → (notes ≡ [] → ⊥)

@@ -1,6 +1,6 @@
 -- The lists of a page begin with numbers of 64 bits.
-use Rattle.std.proofs.Common.{◌≡◌, ℕ, zero, suc, ◌≤◌, ◌^◌, ◌-◌, Bool, true, false}
-use Rattle.std.proofs.Common.{List, [], ◌∷◌, Option, None, Some, ℤ, pos, refl, arith}
+use Rattle.std.proofs.Common.{◌≡◌, ◌≤◌, ◌^◌, ◌-◌, [], ◌∷◌, Bool, List, None, Option, Some, arith, false, pos, refl, suc}
+use Rattle.std.proofs.Common.{true, zero, ℕ, ℤ}
 use Rattle.std.specs.Prelude.{FitsSigned, if◌then◌else◌, ◌&&◌, ◌==◌, not, unwrap_or, codes}
 use Rattle.std.specs.Bool.{nat_le}
 use Rattle.std.specs.Char.{is_whitespace}
@@ -10,13 +10,12 @@ use Rattle.std.specs.Str.{all_ascii_digits}
 use Rattle.std.specs.Str.Parse.{digits_value}
 use Rattle.std.proofs.lemmas.Bool.Decides.{nat_tests}
 use Rattle.std.proofs.lemmas.Int.{ints}
-use Rattle.forest_trees.specs.Trees.{Trees, node, trees}
-use Rattle.forest_trees.specs.Trees as of_trees
-use Rattle.html_forest.specs.Forest.{Forest, Kind, comment, doctype, document, element, instruction, text}
+use Rattle.tree_forest.specs.Trees.{Trees, node, trees}
+use Rattle.tree_forest.specs.Trees as of_trees
+use Rattle.tree_forest.specs.Forest.{Forest, Kind, comment, doctype, document, element, instruction, text}
 use Rattle.html_lexemes.specs.declared.names.Attribute.{Attribute}
 use Rattle.html_lexemes.specs.declared.names.QualName.{QualName}
-use Rattle.render_conversion.specs.Conversion.{around, content, content_by, document_values, text_value}
-use Rattle.render_conversion.specs.Conversion.{valued, values}
+use Rattle.render_conversion.specs.Conversion.{around, content, content_by, document_values, text_value, valued, values}
 use Rattle.render_conversion.specs.ElementNames.{element_name}
 use Rattle.render_conversion.specs.Heads.{head_of}
 use Rattle.render_conversion.specs.Meanings.{element_means, imaged, linked, meaning, or_empty, pictured, row_of}
@@ -38,9 +37,9 @@ use Rattle.render_values.specs.declared.info.Head.{Head}
 use Rattle.render_values.specs.declared.info.RenderInfo.{RenderInfo}
 use Rattle.render_values.specs.declared.info.RenderInfo.TheVariants as infos
 use Rattle.render_values.specs.declared.style.RenderStyle.{RenderStyle}
-use Rattle.style_cascade.specs.declared.rules.StyleRule.{StyleRule}
-use Rattle.tree_words.specs.Attributes.{value_of}
-use Rattle.walk_laws.specs.WalkLaws.{AreNumbered, IsNumbered}
+use Rattle.dom_styles.specs.declared.rules.StyleRule.{StyleRule}
+use Rattle.tree_predicates.specs.Attributes.{value_of}
+use Rattle.layout_laws.specs.WalkLaws.{AreNumbered, IsNumbered}
 
 if_numbered : (b : Bool) (x y : Values) → AreNumbered x → AreNumbered y → AreNumbered (if b then x else y)
 if_numbered true x y a b = a
@@ -173,17 +172,17 @@ joined_numbered none b first second = second
 joined_numbered (value head inside rest) b first second =
     (first.0, (first.1.0, joined_numbered rest b first.1.1 second))
 
-content_by_numbered : (place : Place) (look : RenderStyle) (told : Option (List ℕ))
-    → AreNumbered (content_by place look told)
+content_by_numbered : (place : Place) (look : RenderStyle) (emitted : Option (List ℕ))
+    → AreNumbered (content_by place look emitted)
 content_by_numbered places.Flow look (Some cs) = (tt, (tt, tt))
 content_by_numbered places.Items look (Some cs) =
     if_numbered (list_all is_whitespace cs) none (text_value look cs) tt (tt, (tt, tt))
 content_by_numbered places.Flow look None = tt
 content_by_numbered places.Items look None = tt
-content_by_numbered places.Nowhere look told = tt
-content_by_numbered places.Groups look told = tt
-content_by_numbered places.Rows look told = tt
-content_by_numbered places.Cells look told = tt
+content_by_numbered places.Nowhere look emitted = tt
+content_by_numbered places.Groups look emitted = tt
+content_by_numbered places.Rows look emitted = tt
+content_by_numbered places.Cells look emitted = tt
 
 content_numbered : (place : Place) (part : Part) → AreNumbered (content place part)
 content_numbered place part = if_numbered part.hidden none (content_by place part.look part.content) tt
@@ -246,10 +245,10 @@ values_numbered styles place of_trees.none = tt
 values_numbered styles place (node kind kids rest) =
     let m = meaning place kind kids in
     let inside = values styles m.inner kids in
-    let behind = values styles place rest in
+    let trailing = values styles place rest in
     if_numbered (is_seen place kind && not (parts_of styles kind).itself.hidden)
-    (valued m (is_guarded place kind) kind (parts_of styles kind) inside behind) behind
-    (valued_numbered m (is_guarded place kind) kind (parts_of styles kind) inside behind
+    (valued m (is_guarded place kind) kind (parts_of styles kind) inside trailing) trailing
+    (valued_numbered m (is_guarded place kind) kind (parts_of styles kind) inside trailing
     (means_numbered place kind kids) (values_numbered styles m.inner kids) (values_numbered styles place rest))
     (values_numbered styles place rest)
 

@@ -1,22 +1,21 @@
 -- Lines of a page, and those after it, stay within its width, or have room.
-use Rattle.std.proofs.Common.{◌≡◌, ℕ, ◌≤◌, List, [], ◌∷◌, None, Some, IfSome, true, map, refl, sym, ap}
-use Rattle.std.proofs.Common.{subst, ◌∙◌, ◌<◌, ◌⊎◌, inl, inr, arith}
+use Rattle.std.proofs.Common.{◌≡◌, ◌≤◌, [], ◌∷◌, ◌∙◌, ◌<◌, ◌⊎◌, IfSome, List, None, Some, ap, arith, inl, inr, map}
+use Rattle.std.proofs.Common.{refl, subst, sym, true, ℕ}
 use Rattle.std.specs.Prelude.{All, IsSome, IsSomeAnd, ⊤}
 use Rattle.std.specs.Option.{option_and_then}
 use Rattle.std.proofs.lemmas.List.Elements.{All-map}
 use Rattle.std.proofs.lemmas.Option.{MatchOption-at_some}
-use Rattle.walk_laws.proofs.OptionLemmas.{chained, given_chained, known}
+use Rattle.block_layout_laws.proofs.OptionLemmas.{chained, given_chained, known}
 use Rattle.block_renderer.specs.Footnotes.{add_footnotes}
-use Rattle.renderer_calls.specs.Calls.{Call, starts_block, step}
-use Rattle.renderer_calls.specs.Renderers.{Marking, Sub, lines_of_sub, with_block_started, with_held}
-use Rattle.walk_laws.specs.RendererLaws.{CallFits, HasRoom, IsKeptWithin, StaysWithin}
-use Rattle.tagged_lines.specs.Tagged.{Item, line_columns}
-use Rattle.walk_laws.specs.PartLaws.{HaveRoom, PartsStayWithin}
-use Rattle.walk_laws.specs.Parts.{Parts, whole_page}
+use Rattle.block_trait.specs.Calls.{Call, starts_block, step}
+use Rattle.block_trait.specs.Renderers.{Marking, Sub, lines_of_sub, new_sub, with_block_started, with_held}
+use Rattle.block_laws.specs.RendererLaws.{CallFits, HasRoom, IsKeptWithin, StaysWithin}
+use Rattle.text_lines.specs.Tagged.{Item, line_columns}
+use Rattle.text_block_renderer.specs.PartLaws.{HaveRoom, PartsStayWithin}
+use Rattle.text_block_renderer.specs.Parts.{Parts, whole_page}
 use Rattle.text_borders.specs.Lines.{BlockLine, line_shown}
-use Rattle.text_marks.specs.Marks.{page_end, seen_lines}
+use Rattle.text_decorators.specs.Marks.{page_end, seen_lines}
 use Rattle.render_values.specs.Values.{Values}
-use Rattle.renderer_calls.specs.Renderers.{new_sub}
 use Rattle.html_render_tree.specs.PageLaws.{AreWithin}
 use Rattle.html_render_tree.specs.PageLines.{Setting, closed_page, laid_page, noted, page_lines, renderer_lines}
 use Rattle.html_render_tree.specs.PageLines.{with_notes, with_targets}

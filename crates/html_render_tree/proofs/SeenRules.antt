@@ -1,22 +1,22 @@
 -- Rules of style that are seen alike: of them only what they declare counts.
 use std.Path.{fun_ext}
-use Rattle.std.proofs.Common.{◌≡◌, ℕ, ◌&&◌, Bool, true, false, List, [], ◌∷◌, ◌++◌, map, refl, sym, ap, ◌∙◌}
-use Rattle.std.proofs.Common.{if◌then◌else◌}
+use Rattle.std.proofs.Common.{◌≡◌, ◌&&◌, [], ◌∷◌, ◌++◌, ◌∙◌, if◌then◌else◌, Bool, List, ap, false, map, refl, sym, true}
+use Rattle.std.proofs.Common.{ℕ}
 use Rattle.std.specs.Prelude.{bytes_eq, filter, flat_map, is_some, option_map}
-use Rattle.forest_trees.specs.Trees.{trees}
-use Rattle.html_forest.specs.Forest.{Forest}
+use Rattle.tree_forest.specs.Trees.{trees}
+use Rattle.tree_forest.specs.Forest.{Forest}
 use Rattle.render_conversion.specs.Conversion.{document_values, values}
 use Rattle.render_conversion.specs.Decorating.{SeenRule, seen_rule}
 use Rattle.render_conversion.specs.Styles.{Part, Parts, Styles, styles_of}
 use Rattle.render_conversion.specs.declared.place.Place.TheVariants.{Flow}
-use Rattle.style_cascade.specs.Cascade.{cascade}
-use Rattle.style_cascade.specs.Styles.{background_of, colour_of, content_of, declared_at, declared_by, display_of}
-use Rattle.style_cascade.specs.Styles.{is_same_place, of_property, rule_declares, white_space_of}
-use Rattle.style_cascade.specs.declared.cascade.Declared.{Declared}
-use Rattle.style_cascade.specs.declared.rules.Style.{Style}
-use Rattle.style_cascade.specs.declared.rules.StylePlace.{StylePlace}
-use Rattle.style_cascade.specs.declared.rules.StylePlace.TheVariants.{After, Before, Itself}
-use Rattle.style_cascade.specs.declared.rules.StyleRule.{StyleRule}
+use Rattle.dom_styles.specs.Cascade.{cascade}
+use Rattle.dom_styles.specs.Styles.{background_of, colour_of, content_of, declared_at, declared_by, display_of}
+use Rattle.dom_styles.specs.Styles.{is_same_place, of_property, rule_declares, white_space_of}
+use Rattle.dom_styles.specs.declared.cascade.Declared.{Declared}
+use Rattle.dom_styles.specs.declared.rules.Style.{Style}
+use Rattle.dom_styles.specs.declared.rules.StylePlace.{StylePlace}
+use Rattle.dom_styles.specs.declared.rules.StylePlace.TheVariants.{After, Before, Itself}
+use Rattle.dom_styles.specs.declared.rules.StyleRule.{StyleRule}
 
 -- what rules declare, by what is seen of them
 abbrev seen_declares : SeenRule → List (Declared Style)

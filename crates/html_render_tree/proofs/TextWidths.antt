@@ -2,9 +2,9 @@
 use Rattle.std.proofs.Common.{◌≡◌, ℕ, ◌≤◌, ◌++◌, ◌∙◌, List, [], ◌∷◌, ap, map, refl, sym}
 use Rattle.std.specs.Prelude.{flat_map}
 use Rattle.std.proofs.lemmas.List.Elements.{All-map}
-use Rattle.renderer_calls.specs.Renderers.{Marking}
-use Rattle.tagged_lines.specs.Columns.{text_columns}
-use Rattle.tagged_lines.specs.Tagged.{Item, characters}
+use Rattle.block_trait.specs.Renderers.{Marking}
+use Rattle.text_lines.specs.Columns.{text_columns}
+use Rattle.text_lines.specs.Tagged.{Item, characters}
 use Rattle.html_render_tree.specs.PageLaws.{PagesKeepWidth, TextsKeepWidth}
 use Rattle.html_render_tree.specs.PageLines.{lines_text, page_lines}
 use Rattle.html_render_tree.proofs.OptionLemmas.{some_mapped}

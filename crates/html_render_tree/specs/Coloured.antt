@@ -3,9 +3,9 @@ use Rattle.std.specs.Prelude.{◌≡◌, ℕ, List, [], ◌∷◌, ◌++◌, Ok,
 use Rattle.std.specs.Fn.{FnReturns, Shared}
 use Rattle.std.specs.Global.{Global}
 use Rattle.std.specs.Borrow.{Bor}
-use Rattle.tagged_lines.specs.Tagged.{line_strings}
-use Rattle.tagged_lines.specs.declared.tagged_line.TaggedLine.{TaggedLine}
-use Rattle.tagged_lines.specs.declared.tagged_string.TaggedString.{TaggedString}
+use Rattle.text_lines.specs.Tagged.{line_strings}
+use Rattle.text_lines.specs.declared.tagged_line.TaggedLine.{TaggedLine}
+use Rattle.text_lines.specs.declared.tagged_string.TaggedString.{TaggedString}
 
 -- A call of the map with these annotations and this text answered that text.
 pub record Colours {F T E : Type 0}

@@ -4,9 +4,9 @@ pub mod PageLines
 pub mod PlainText
 pub mod RichText
 pub mod Settings
-pub use Rattle.walk_laws.specs.WalkLaws
-pub use Rattle.walk_laws.specs.Parts
-pub use Rattle.walk_laws.specs.Lay
-pub use Rattle.walk_laws.specs.Begins
-pub use Rattle.walk_laws.specs.Laying
-pub use Rattle.walk_laws.specs.Around
+pub use Rattle.layout_laws.specs.WalkLaws
+pub use Rattle.layout_state.specs.Begins
+pub use Rattle.layout_state.specs.LayoutState
+pub use Rattle.layout_state.specs.declared.around.Around
+pub use Rattle.layout_values.specs.Lay
+pub use Rattle.text_block_renderer.specs.Parts

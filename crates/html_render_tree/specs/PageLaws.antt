@@ -1,11 +1,11 @@
 -- Words of the laws on the lines of a page.
 use Rattle.std.specs.Prelude.{◌≡◌, ℕ, ◌≤◌, ◌++◌, All, List, [], ◌∷◌, None, Some, false, flat_map, true}
-use Rattle.renderer_calls.specs.Renderers.{Marking}
-use Rattle.tagged_lines.specs.Columns.{text_columns}
-use Rattle.tagged_lines.specs.Tagged.{Item, line_columns}
-use Rattle.text_marks.specs.Marks.{IsSteady}
+use Rattle.block_trait.specs.Renderers.{Marking}
+use Rattle.text_lines.specs.Columns.{text_columns}
+use Rattle.text_lines.specs.Tagged.{Item, line_columns}
+use Rattle.text_decorators.specs.Marks.{IsSteady}
 use Rattle.render_values.specs.Values.{Values}
-use Rattle.walk_laws.specs.WalkLaws.{AreNumbered}
+use Rattle.layout_laws.specs.WalkLaws.{AreNumbered}
 use Rattle.html_render_tree.specs.PageLines.{Setting, page_lines, page_text}
 
 -- no line passes so many columns

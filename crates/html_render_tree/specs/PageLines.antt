@@ -2,18 +2,18 @@
 use Rattle.std.specs.Prelude.{ℕ, Bool, List, [], ◌∷◌, ◌++◌, Option, Some, if◌then◌else◌, flat_map, map}
 use Rattle.std.specs.Option.{option_and_then, option_map}
 use Rattle.block_renderer.specs.Footnotes.{add_footnotes}
-use Rattle.link_targets.specs.Targets.{noted_targets}
-use Rattle.renderer_calls.specs.Bare.{bare_of}
-use Rattle.renderer_calls.specs.Renderers.{Marking, Sub, lines_of_sub, new_sub, with_block_started, with_held}
-use Rattle.renderer_calls.specs.declared.options.RenderOptions.{RenderOptions}
-use Rattle.tagged_lines.specs.Tagged.{Item, characters}
-use Rattle.walk_laws.specs.Parts.{Parts, whole_page}
+use Rattle.text_footnotes.specs.Targets.{noted_targets}
+use Rattle.block_trait.specs.Bare.{bare_of}
+use Rattle.block_trait.specs.Renderers.{Marking, Sub, lines_of_sub, new_sub, with_block_started, with_held}
+use Rattle.block_trait.specs.declared.options.RenderOptions.{RenderOptions}
+use Rattle.text_lines.specs.Tagged.{Item, characters}
+use Rattle.text_block_renderer.specs.Parts.{Parts, whole_page}
 use Rattle.text_borders.specs.Lines.{line_shown}
-use Rattle.text_marks.specs.Marks.{page_end, seen_lines}
+use Rattle.text_decorators.specs.Marks.{page_end, seen_lines}
 use Rattle.render_sizes.specs.Extents.{measure_of}
 use Rattle.render_values.specs.Values.{Values}
-use Rattle.walk_laws.specs.Lay.{laid_parts}
-pub use Rattle.walk_laws.specs.Items.{prefix_columns}
+use Rattle.layout_values.specs.Lay.{laid_parts}
+pub use Rattle.layout_state.specs.Items.{prefix_columns}
 
 -- what a page is rendered by: the options, how narrow text may be wrapped, and what a decorator of the page holds
 pub record Setting (H : Type 0) : Type 0 where

@@ -1,2 +1,2 @@
 -- Pages as plain text.
-pub use Rattle.walk_laws.specs.PlainText.{plain_closes, plain_marking}
+pub use Rattle.text_block_renderer.specs.PlainText.{plain_closes, plain_marking}

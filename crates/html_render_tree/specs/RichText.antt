@@ -1,7 +1,7 @@
 -- Pages as rich text: what its decorator marks and notes, and what it closes a page with.
 use Rattle.std.specs.Prelude.{ℕ, true, List}
-use Rattle.renderer_calls.specs.Renderers.{Marking}
-use Rattle.tagged_lines.specs.Tagged.{Item}
+use Rattle.block_trait.specs.Renderers.{Marking}
+use Rattle.text_lines.specs.Tagged.{Item}
 use Rattle.text_decorators.specs.Annotations.{RichTag}
 use Rattle.text_decorators.specs.Laws.{rich_mark_tag}
 use Rattle.text_decorators.specs.Texts.{footnote_lines, is_colour, rich_text}

@@ -1,10 +1,10 @@
 -- What contracts see of how a page is rendered.
 use Rattle.std.specs.Prelude.{◌≡◌, List, ◌++◌, map}
 use Rattle.render_conversion.specs.Decorating.{decorating_rules, seen_rule}
-use Rattle.renderer_calls.specs.declared.options.RenderOptions.{RenderOptions}
-use Rattle.style_cascade.specs.declared.rules.StyleRule.{StyleRule}
+use Rattle.block_trait.specs.declared.options.RenderOptions.{RenderOptions}
+use Rattle.dom_styles.specs.declared.rules.StyleRule.{StyleRule}
 use Rattle.html_render_tree.specs.PageLines.{Setting}
-use Rattle.text_marks.specs.Marks.{DecoratorView}
+use Rattle.text_decorators.specs.Marks.{DecoratorView}
 use Rattle.html_render_tree.specs.declared.config.RenderConfig.{RenderConfig}
 
 -- A page is rendered by a decorator that was made for it.

@@ -1,25 +1,26 @@
 //! What stands after a page's last value, and its lines.
 ghost use Rattle.std.specs.Prelude.{◌≡◌, [], Err, IfOk, None, OnOk, Some, if◌then◌else◌, map};
 ghost use Rattle.block_renderer.specs.Seen.{Comes, Fails, IsTagging, marking, sub_of, tags_seen};
-ghost use Rattle.html_render_tree.specs.PageLines.{noted, renderer_lines, with_notes};
-ghost use Rattle.html_render_tree.specs.PageLines.{with_targets};
-ghost use Rattle.link_targets.specs.Links.{all_targets};
-ghost use Rattle.link_targets.specs.Targets.{noted_targets};
-ghost use Rattle.renderer_calls.specs.Renderers.{lines_of_sub};
-ghost use Rattle.tagged_lines.specs.Tagged.{line_items};
+ghost use Rattle.html_render_tree.specs.PageLines.{noted, renderer_lines, with_notes, with_targets};
+ghost use Rattle.text_footnotes.specs.Links.{all_targets};
+ghost use Rattle.text_footnotes.specs.Targets.{noted_targets};
+ghost use Rattle.block_trait.specs.Renderers.{lines_of_sub};
+ghost use Rattle.text_lines.specs.Tagged.{line_items};
 ghost use Rattle.text_pieces.specs.Sources.{names};
-ghost use Rattle.walk_laws.specs.Parts.{depth_of};
-ghost use Rattle.walk_laws.specs.SeenParts.{parts_of};
+ghost use Rattle.text_block_renderer.specs.Parts.{depth_of};
+ghost use Rattle.text_block_renderer.specs.SeenParts.{parts_of};
 ghost use Rattle.text_borders.specs.Lines.{line_shown, render_line_of};
 ghost use Rattle.text_pieces.specs.declared.fault.BlockError.TheVariants as errors;
 
-use block_renderer::{RenderLine, Renderer, SubRenderer};
-use link_targets::LinkTargets;
+use block_renderer::SubRenderer;
+use block_trait::Renderer;
 use std::alloc::{AllocError, Global};
-use tagged_lines::TaggedLine;
-use text_marks::TextDecorator;
+use text_block_renderer::TextRenderer;
+use text_borders::RenderLine;
+use text_decorators::TextDecorator;
+use text_footnotes::LinkTargets;
+use text_lines::TaggedLine;
 use text_pieces::BlockError;
-use walk_laws::TextRenderer;
 
 // lines after the page, as a block of their own
 fn add_notes<D: TextDecorator + Drop>(

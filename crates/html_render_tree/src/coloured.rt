@@ -1,19 +1,19 @@
 //! A render tree as text with what a map makes of annotations, such as the colours of a terminal.
-ghost use Rattle.std.specs.Prelude.{◌≡◌, ◌≢◌, ◌⊎◌, ◌<◌, ◌++◌, ◌∷◌, [], ℕ, List, Err, IfOk, None};
-ghost use Rattle.std.specs.Prelude.{OnOk, Some, map, string_bytes};
+ghost use Rattle.std.specs.Prelude.{◌≡◌, ◌≢◌, ◌⊎◌, ◌<◌, ◌++◌, ◌∷◌, [], Err, IfOk, List, None, OnOk, Some, map};
+ghost use Rattle.std.specs.Prelude.{string_bytes, ℕ};
 ghost use Rattle.block_renderer.specs.Seen.{IsTagging, marking, tags_seen};
 ghost use Rattle.html_render_tree.specs.Coloured.{AreColoured, AreColouredLines, Colours};
 ghost use Rattle.html_render_tree.specs.PageLines.{page_lines};
 ghost use Rattle.html_render_tree.specs.Settings.{setting_of};
 ghost use Rattle.render_conversion.specs.declared.error.RenderError.TheVariants as errors;
-ghost use Rattle.tagged_lines.specs.Tagged.{line_items, line_strings};
+ghost use Rattle.text_lines.specs.Tagged.{line_items, line_strings};
 
 use crate::config::RenderConfig;
 use render_conversion::RenderError;
 use render_values::RenderTree;
 use std::alloc::{AllocError, Global};
-use tagged_lines::TaggedLine;
-use text_marks::TextDecorator;
+use text_decorators::TextDecorator;
+use text_lines::TaggedLine;
 
 impl<D: TextDecorator + Drop> RenderConfig<D> {
     /// The text of a render tree: of each line what `colour_map` makes of its strings, each with its annotations, and

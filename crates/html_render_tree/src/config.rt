@@ -1,6 +1,6 @@
 //! How pages are rendered.
-ghost use Rattle.std.specs.Prelude.{◌≡◌, ◌≢◌, ◌⊎◌, ◌<◌, ◌≤◌, ◌++◌, [], Err};
-ghost use Rattle.std.specs.Prelude.{IfErr, IfOk, None, Some, chars, map, string_bytes, true, false};
+ghost use Rattle.std.specs.Prelude.{◌≡◌, ◌≢◌, ◌⊎◌, ◌<◌, ◌≤◌, ◌++◌, [], Err, IfErr, IfOk, None, Some, chars, false, map};
+ghost use Rattle.std.specs.Prelude.{string_bytes, true};
 
 use crate::closing::{closed_page, lines_of};
 use crate::laws::{
@@ -9,16 +9,18 @@ use crate::laws::{
 };
 use crate::rendering::{laid, refusal};
 use crate::rules::joined;
+use block_laws::annotations_change_no_text;
 use block_renderer::SubRenderer;
+use block_trait::{ImageRenderMode, RenderOptions};
+use dom_styles::StyleRule;
 use html_render_dom::RcDom;
+use layout_laws::annotations_change_no_page;
 use render_conversion::{RenderError, decorating_rules};
 use render_values::RenderTree;
-use renderer_calls::{ImageRenderMode, RenderOptions};
 use std::alloc::Global;
-use style_cascade::StyleRule;
-use tagged_lines::TaggedLine;
-use text_marks::TextDecorator;
-use walk_laws::{TextRenderer, annotations_change_no_page, annotations_change_no_text};
+use text_block_renderer::TextRenderer;
+use text_decorators::TextDecorator;
+use text_lines::TaggedLine;
 
 /// How narrow text may be wrapped where nothing else was said, in columns.
 const MIN_WRAP_WIDTH: usize = 3;
@@ -39,16 +41,16 @@ impl<D: TextDecorator + Drop> RenderConfig<D> {
     ghost use Rattle.render_conversion.specs.Conversion.{document_values};
     ghost use Rattle.render_conversion.specs.declared.error.RenderError.TheVariants as errors;
     ghost use Rattle.render_values.specs.Values.{none};
-    ghost use Rattle.renderer_calls.specs.Defaults.{default_options};
-    ghost use Rattle.tagged_lines.specs.Tagged.{line_items};
-    ghost use Rattle.text_marks.specs.Marks.{IsSteady};
-    ghost use Rattle.walk_laws.specs.WalkLaws.{AreNumbered};
+    ghost use Rattle.block_trait.specs.Defaults.{default_options};
+    ghost use Rattle.text_lines.specs.Tagged.{line_items};
+    ghost use Rattle.text_decorators.specs.Marks.{IsSteady};
+    ghost use Rattle.layout_laws.specs.WalkLaws.{AreNumbered};
     ghost use Rattle.html_render_tree.specs.PageLaws.{AreWithin, IsTextWithin};
     ghost use Rattle.html_render_tree.specs.PageLines.{closed_page, laid_as, lines_text, page_lines, page_text};
-    ghost use Rattle.renderer_calls.specs.Bare.{bare_of};
+    ghost use Rattle.block_trait.specs.Bare.{bare_of};
     ghost use Rattle.std.specs.Option.{option_map};
-    ghost use Rattle.walk_laws.specs.Parts.{depth_of};
-    ghost use Rattle.walk_laws.specs.SeenParts.{parts_of};
+    ghost use Rattle.text_block_renderer.specs.Parts.{depth_of};
+    ghost use Rattle.text_block_renderer.specs.SeenParts.{parts_of};
     ghost use Rattle.html_render_tree.specs.Settings.{IsDecorated, rules_of, setting_of, with_options};
 
     /// As text is rendered by a decorator: no rules of style, and the options as they are by default.

@@ -1,18 +1,17 @@
 //! Laws of the lines of pages: each is the contract of a function that does nothing.
 ghost use Rattle.std.specs.Prelude.{List};
 ghost use Rattle.block_renderer.specs.Seen.{marking};
-ghost use Rattle.html_forest.specs.Forest.{Forest};
+ghost use Rattle.tree_forest.specs.Forest.{Forest};
 ghost use Rattle.html_render_tree.specs.PageLaws.{PagesHaveRoom, PagesKeepWidth, TextsKeepWidth};
 ghost use Rattle.render_conversion.specs.Conversion.{document_values};
-ghost use Rattle.style_cascade.specs.declared.rules.StyleRule.{StyleRule as SeenRule};
-ghost use Rattle.text_marks.specs.Marks.{Mark};
-ghost use Rattle.walk_laws.specs.WalkLaws.{AreNumbered};
+ghost use Rattle.dom_styles.specs.declared.rules.StyleRule.{StyleRule as SeenRule};
+ghost use Rattle.text_decorators.specs.Marks.{Mark};
+ghost use Rattle.layout_laws.specs.WalkLaws.{AreNumbered};
 
-use text_marks::TextDecorator;
-use walk_laws::{
-    parts_keep_the_width, parts_with_room_never_refuse, renderers_keep_the_width,
-    renderers_with_room_never_refuse, values_keep_the_width, values_with_room_are_laid,
-};
+use block_laws::{renderers_keep_the_width, renderers_with_room_never_refuse};
+use layout_laws::{values_keep_the_width, values_with_room_are_laid};
+use text_block_renderer::{parts_keep_the_width, parts_with_room_never_refuse};
+use text_decorators::TextDecorator;
 
 /// No line of a page passes its width, of two columns or more, where prefixes are steady, no part may pass it and links
 /// are wrapped: lines after its last value among them.

@@ -32,7 +32,7 @@
 //! - `pages_keep_the_width`, `texts_keep_the_width`, `pages_with_room_are_never_too_narrow`, `pages_are_numbered`:
 //!   laws: the same of the definitions alone; the lists of a page begin with numbers of 64 bits
 //!
-//! Tested (`page_rows`): four pages as text, a refused one among them. The cases `page` of stored_rows are 500
+//! Tested (`test_pages`): four pages as text, a refused one among them. The cases `page` of stored_rows are 500
 //! pages without tables, 400 with tables, 600 with options and rules of style and 200 with links, 142 of them with
 //! shared footnotes, of a model of the layout that was written independently: plain with marks and targets, plain
 //! alone, rich, and by the trivial decorator, at many widths, with each option, and with rules that set colours,
@@ -52,7 +52,6 @@ mod prefixes;
 mod rendering;
 mod rules;
 
-pub use column_widths::{ColumnShare, column_widths};
 pub use config::RenderConfig;
 pub use laws::{
     pages_are_numbered, pages_keep_the_width, pages_with_room_are_never_too_narrow,
@@ -60,3 +59,4 @@ pub use laws::{
 };
 pub use render_conversion::{RenderError, decorating_rules};
 pub use render_values::RenderTree;
+pub use table_widths::{ColumnShare, column_widths};

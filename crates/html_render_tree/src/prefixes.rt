@@ -4,8 +4,8 @@ ghost use Rattle.html_render_tree.specs.PageLines.{prefix_columns};
 
 use render_sizes::Prefixes;
 use std::alloc::{AllocError, Global};
-use tagged_lines::columns_of;
-use text_marks::TextDecorator;
+use text_decorators::TextDecorator;
+use text_lines::columns_of;
 
 /// The prefixes of a decorator.
 #[derive(Drop)]

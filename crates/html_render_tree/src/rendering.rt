@@ -4,19 +4,21 @@ ghost use Rattle.block_renderer.specs.Seen.{IsTagging, has_failed, marking, sub_
 ghost use Rattle.html_render_tree.specs.PageLines.{begun_as, laid_as, prefix_columns};
 ghost use Rattle.render_conversion.specs.declared.error.RenderError.TheVariants as errors;
 ghost use Rattle.render_sizes.specs.Extents.{Measure, measure_of};
-ghost use Rattle.renderer_calls.specs.Renderers.{new_sub};
-ghost use Rattle.walk_laws.specs.Parts.{depth_of};
-ghost use Rattle.walk_laws.specs.SeenParts.{parts_of};
+ghost use Rattle.block_trait.specs.Renderers.{new_sub};
+ghost use Rattle.text_block_renderer.specs.Parts.{depth_of};
+ghost use Rattle.text_block_renderer.specs.SeenParts.{parts_of};
 
 use crate::prefixes::DecoratorPrefixes;
-use block_renderer::{RenderOptions, SubRenderer};
+use block_renderer::SubRenderer;
+use block_trait::RenderOptions;
+use layout_walk::lay_tree;
 use render_conversion::RenderError;
 use render_sizes::asked_extents;
 use render_values::RenderTree;
 use std::alloc::Global;
-use text_marks::TextDecorator;
+use text_block_renderer::TextRenderer;
+use text_decorators::TextDecorator;
 use text_pieces::BlockError;
-use walk_laws::{TextRenderer, lay_tree};
 
 // after an allocation failure nothing is called
 pub(crate) fn refusal(error: BlockError) -> RenderError

@@ -2,8 +2,8 @@
 
 ghost use Rattle.std.specs.Prelude.{◌≡◌, ◌++◌, IfOk};
 
+use dom_styles::StyleRule;
 use std::alloc::AllocError;
-use style_cascade::StyleRule;
 
 /// These rules, and then those. The error is allocation failure.
 pub(crate) fn joined(

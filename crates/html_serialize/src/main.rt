@@ -4,9 +4,8 @@
 #![tactic(auto)]
 
 use anyhow::{Result, bail};
-use dom_serializer::html_render_dom::{Handle, RcDom};
-use dom_serializer::html_serializer::{SerializeOpts, TraversalScope, serialize};
-use dom_serializer::{SerializableHandle, SerializeDom};
+use dom_writing::{SerializableHandle, SerializeDom};
+use html_render_dom::{Handle, RcDom};
 use html_tree_builder::html_lexemes::{
     Attributes, Device, LocalName, Namespace, ParseFault, QualName, ReferenceTable,
 };
@@ -15,6 +14,7 @@ use std::alloc::{AllocError, Global};
 use std::io::{BufWriter, Write};
 use std::rt::Env;
 use std::{env, io};
+use tree_serializer::{SerializeOpts, TraversalScope, serialize};
 
 /// Ends with status 0 where the whole tree was written, and else 1 with a text on standard error.
 fn main(rt: HostRuntime) -> Result<()> {
@@ -46,7 +46,7 @@ fn context_of<R: Env + AllocGlobal>(rt: &R) -> Result<Option<QualName>> {
         bail!("no option has the name {option}");
     }
     let (Some(name), None) = (words.next(), words.next()) else {
-        bail!("--fragment has one name behind it");
+        bail!("--fragment has one name after it");
     };
     let local = LocalName::from_str(rt.alloc(), name.as_str())?;
     Ok(Some(QualName::new(Namespace::Html, local)))

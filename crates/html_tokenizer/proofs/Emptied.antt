@@ -2,7 +2,7 @@
 use Rattle.std.proofs.Common.{◌≡◌, ℕ, Bool, true, false, ◌&&◌, ◌==◌, List, [], length, string_bytes, refl, sym, ap, ◌∙◌}
 use Rattle.std.proofs.lemmas.Str.{encodes-chars, IsUtf8-string_bytes}
 use Rattle.std.specs.Str.{encode_utf8_all}
-use Rattle.lexeme_places.specs.PlaceKinds.{is_of_text, is_open}
+use Rattle.token_states.specs.PlaceKinds.{is_of_text, is_open}
 use Rattle.html_tokenizer.specs.Holdings.{HoldsNothing}
 use Rattle.html_tokenizer.specs.declared.reader.Reader.{Reader}
 

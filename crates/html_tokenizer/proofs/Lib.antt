@@ -8,5 +8,5 @@ pub mod RawReads
 pub mod ReadsLemmas
 pub mod ReadyLemmas
 pub mod RunLemmas
-pub mod TellsLemmas
+pub mod EmitsLemmas
 pub mod Undecided

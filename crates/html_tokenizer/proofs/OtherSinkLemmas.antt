@@ -1,7 +1,7 @@
 -- What a tokenizer does depends on its sink's state alone.
 use Rattle.std.proofs.Common.{◌≡◌, refl, subst, sym}
-use Rattle.html_grammar.specs.Items.{Item}
-use Rattle.html_grammar.specs.Meaning.{Meaning}
+use Rattle.token_grammar.specs.Items.{Item}
+use Rattle.token_grammar.specs.Meaning.{Meaning}
 use Rattle.html_tokenizer.specs.Completes.{Completes, IsFit, has_failed}
 use Rattle.html_tokenizer.specs.Fits.{IsFitReader}
 use Rattle.html_tokenizer.specs.OtherSinks.{GoesOnAs, HoldsIn, with_sink}

@@ -1,20 +1,20 @@
 -- The last character before a pause is a tag's `>`.
-use Rattle.std.proofs.Common.{◌≡◌, ℕ, Bool, true, false, cond, ◌==◌, List, [], ◌∷◌, ◌++◌, append-nil, append_assoc}
-use Rattle.std.proofs.Common.{Option, Some, None, IfSome, refl, sym, ap, ◌∙◌, subst}
+use Rattle.std.proofs.Common.{◌≡◌, ◌==◌, [], ◌∷◌, ◌++◌, ◌∙◌, Bool, IfSome, List, None, Option, Some, ap, append-nil}
+use Rattle.std.proofs.Common.{append_assoc, cond, false, refl, subst, sym, true, ℕ}
 use Rattle.html_lexemes.specs.LineEnds.{lines_ended}
 use Rattle.html_lexemes.specs.Queue.{Queue, Takes}
-use Rattle.reference_tables.specs.References.{References}
+use Rattle.lex_base.specs.References.{References}
 use Rattle.html_lexemes.specs.declared.token.Tag.{Tag}
-use Rattle.html_grammar.specs.Lexemes.{Lexeme, nothing, told, tagged}
-use Rattle.html_grammar.specs.Tags.{greater}
-use Rattle.html_grammar.specs.declared.modes.Mode.{Mode}
-use Rattle.lexeme_places.specs.Places.{place_lexeme}
-use Rattle.lexeme_places.specs.Turns.{IsTaken, IsUntagged, LeavesText}
-use Rattle.lexeme_places.specs.declared.place.Place.{Place}
-use Rattle.html_grammar.specs.Meaning.{Meaning}
-use Rattle.html_tokenizer.specs.Completes.{Completes, IsUndecided, PausesBehind, TakesEach}
+use Rattle.token_grammar.specs.Lexemes.{Lexeme, nothing, emitted, tagged}
+use Rattle.token_grammar.specs.Tags.{greater}
+use Rattle.token_grammar.specs.declared.modes.Mode.{Mode}
+use Rattle.token_states.specs.Places.{place_lexeme}
+use Rattle.token_states.specs.Turns.{IsTaken, IsUntagged, LeavesText}
+use Rattle.token_states.specs.declared.place.LexemeState.{LexemeState}
+use Rattle.token_grammar.specs.Meaning.{Meaning}
+use Rattle.html_tokenizer.specs.Completes.{Completes, IsUndecided, PausesAfter, TakesEach}
 use Rattle.html_tokenizer.specs.Inside as inside
-use Rattle.html_tokenizer.specs.Tells.{TellsOn}
+use Rattle.html_tokenizer.specs.Emits.{EmitsOn}
 use Rattle.html_tokenizer.specs.declared.tokenizer.Tokenizer.{Tokenizer}
 use Rattle.html_tokenizer.specs.PageRest.{page_rest}
 use Rattle.html_tokenizer.specs.declared.line_ends.LineEnds.{LineEnds}
@@ -37,24 +37,24 @@ same_last held front c d e = sym (last_is 0 held c) ∙ (ap (last_or 0) e ∙ la
 -- a tag ends with its `>`
 abbrev pub TagsEndWithMark : Type 0
 TagsEndWithMark =
-    (table : References) (foreign : Bool) (mode : Mode) (place : Place) (cs : List ℕ) (t : Tag) (rest : List ℕ) →
+    (table : References) (foreign : Bool) (mode : Mode) (place : LexemeState) (cs : List ℕ) (t : Tag) (rest : List ℕ) →
     place_lexeme table foreign mode place cs ≡ tagged t rest → (front : List ℕ) × (cs ≡ front ++ greater ∷ rest)
 
 -- What is over with a character, and is answered, is a tag.
-by_lexeme : {H : Type 0} (table : References) (foreign : Bool) (mode : Mode) (place : Place) (held : List ℕ) (c : ℕ)
+by_lexeme : {H : Type 0} (table : References) (foreign : Bool) (mode : Mode) (place : LexemeState) (held : List ℕ) (c : ℕ)
     (pause : Option H) (l : Lexeme) → TagsEndWithMark →
     place_lexeme table foreign mode place (held ++ c ∷ []) ≡ l → LeavesText l → (IsUntagged l → pause ≡ None) →
     IfSome pause (λ _. c ≡ greater)
 by_lexeme table foreign mode place held c pause nothing law e left untagged =
     subst (λ p. IfSome p (λ _. c ≡ greater)) (sym (untagged tt)) tt
-by_lexeme table foreign mode place held c pause (told items behind rest) law e left untagged =
+by_lexeme table foreign mode place held c pause (emitted items trailing rest) law e left untagged =
     subst (λ p. IfSome p (λ _. c ≡ greater)) (sym (untagged tt)) tt
 by_lexeme table foreign mode place held c None (tagged t rest) law e left untagged = tt
 by_lexeme table foreign mode place held c (Some pause) (tagged t rest) law e left untagged =
     let found = law table foreign mode place (held ++ c ∷ []) t [] (e ∙ ap (tagged t) left) in
     same_last held found.0 c greater found.1
 
-pub pause_mark : {H : Type 0} (table : References) (foreign : Bool) (mode : Mode) (place last : Place)
+pub pause_mark : {H : Type 0} (table : References) (foreign : Bool) (mode : Mode) (place last : LexemeState)
     (held now : List ℕ) (c : ℕ) (pause : Option H) → TagsEndWithMark →
     IsTaken table foreign mode place held c last now → LeavesText (place_lexeme table foreign mode last now) →
     (IsUntagged (place_lexeme table foreign mode last now) → pause ≡ None) → IfSome pause (λ _. c ≡ greater)
@@ -110,13 +110,13 @@ has_taken_more completes now after old between new c h t f = record {
       (h.reads (c ∷ rest) final (f rest final l));
 }
 
-pub pauses_behind : {S A H : Type 0} (state : S → A) (means : Meaning A H) (mark c : ℕ) (begun : A)
+pub pauses_after : {S A H : Type 0} (state : S → A) (means : Meaning A H) (mark c : ℕ) (begun : A)
     (completes : List ℕ → A → Type 0) (old now after : Queue) (before : Tokenizer S) →
     HasTaken completes (inside.Completes state means before) old now →
-    TellsOn means begun (state before.sink) → inside.IsUndecided before → Takes now (c ∷ []) after → c ≡ mark →
-    PausesBehind state means mark begun completes old after
+    EmitsOn means begun (state before.sink) → inside.IsUndecided before → Takes now (c ∷ []) after → c ≡ mark →
+    PausesAfter state means mark begun completes old after
 unfolding Completes IsUndecided
-pauses_behind state means mark c begun completes old now after before h on undecided t e = record {
+pauses_after state means mark c begun completes old now after before h on undecided t e = record {
   taken = h.taken;
   takes = each_more old h.taken now after mark h.takes (subst (λ x. Takes now (x ∷ []) after) e t);
   before = before;

@@ -1,45 +1,46 @@
 -- What a turn says, once it is known which it is.
 use Rattle.std.proofs.Common.{◌≡◌, ℕ, Bool, List, [], Option, Some, None, MatchOption, IfSome, IsTrue, refl, sym, subst}
 use Rattle.std.specs.FinMap as finite
-use Rattle.reference_tables.specs.References.{References}
+use Rattle.lex_base.specs.References.{References}
 use Rattle.html_lexemes.specs.declared.states.RawKind.{RawKind}
-use Rattle.html_grammar.specs.declared.modes.Mode.{Mode}
-use Rattle.html_grammar.specs.declared.modes.TextKind.TheVariants.{Ordinary}
-use Rattle.html_grammar.specs.declared.modes.TextKind.{TextKind}
-use Rattle.lexeme_places.specs.PlaceKinds.{IsPlaceOf, KeepsKind}
-use Rattle.lexeme_places.specs.RawTurns.{RawTurns}
+use Rattle.token_grammar.specs.declared.modes.Mode.{Mode}
+use Rattle.token_grammar.specs.declared.modes.TextKind.TheVariants.{Ordinary}
+use Rattle.token_grammar.specs.declared.modes.TextKind.{TextKind}
+use Rattle.token_states.specs.PlaceKinds.{IsPlaceOf, KeepsKind}
+use Rattle.token_states.specs.RawTurns.{RawTurns}
 use Rattle.html_tokenizer.specs.Advances.{IsRawPlace}
-use Rattle.lexeme_places.specs.MarkupSound.{is_begun_section_end}
-use Rattle.lexeme_places.specs.SectionTurns.{SectionAdvances, SectionTurns}
-use Rattle.lexeme_places.specs.Turns.{Turns}
-use Rattle.lexeme_places.specs.declared.place.Place.{Place}
-use Rattle.lexeme_places.specs.declared.place.Place.TheVariants.{CharacterReference, TagOpen, EndTagOpen, Tag}
-use Rattle.lexeme_places.specs.declared.place.Place.TheVariants.{BogusComment, Comment, Doctype, RawText, CdataSection}
-use Rattle.lexeme_places.specs.declared.place.Place.TheVariants.{MarkupDeclarationOpen, Text as NoLexeme}
-use Rattle.lexeme_places.specs.declared.section_turns.SectionTurn.{SectionTurn}
-use Rattle.lexeme_places.specs.declared.section_turns.SectionTurn.TheVariants.{Goes as SectionGoes, Ends as SectionEnds}
-use Rattle.lexeme_places.specs.declared.section_turns.SectionTurn.TheVariants.{Shifts as SectionShifts}
-use Rattle.lexeme_places.specs.declared.section_turns.SectionTurn.TheVariants.{Text as SectionText}
-use Rattle.lexeme_places.specs.declared.turn.RawTurn.{RawTurn}
-use Rattle.lexeme_places.specs.declared.turn.Turn.{Turn}
+use Rattle.token_states.specs.MarkupSound.{is_begun_section_end}
+use Rattle.token_states.specs.SectionTurns.{SectionAdvances, SectionTurns}
+use Rattle.token_states.specs.Turns.{Turns}
+use Rattle.token_states.specs.declared.place.LexemeState.{LexemeState}
+use Rattle.token_states.specs.declared.place.LexemeState.TheVariants.{BogusComment, CdataSection, CharacterReference}
+use Rattle.token_states.specs.declared.place.LexemeState.TheVariants.{Comment, Doctype, EndTagOpen}
+use Rattle.token_states.specs.declared.place.LexemeState.TheVariants.{MarkupDeclarationOpen, RawText, Tag, TagOpen}
+use Rattle.token_states.specs.declared.place.LexemeState.TheVariants.{Text as NoLexeme}
+use Rattle.token_states.specs.declared.section_turns.SectionTurn.{SectionTurn}
+use Rattle.token_states.specs.declared.section_turns.SectionTurn.TheVariants.{Ends as SectionEnds, Goes as SectionGoes}
+use Rattle.token_states.specs.declared.section_turns.SectionTurn.TheVariants.{Shifts as SectionShifts}
+use Rattle.token_states.specs.declared.section_turns.SectionTurn.TheVariants.{Text as SectionText}
+use Rattle.token_states.specs.declared.turn.RawTurn.{RawTurn}
+use Rattle.token_states.specs.declared.turn.Turn.{Turn}
 
-abbrev pub TurnsTo : References → Bool → Place → List ℕ → ℕ → List ℕ → Turn → Type 0
+abbrev pub TurnsTo : References → Bool → LexemeState → List ℕ → ℕ → List ℕ → Turn → Type 0
 TurnsTo table foreign place held c now turn = (asked : Bool) (mode : Mode) →
     (place ≡ MarkupDeclarationOpen → asked ≡ foreign) → Turns table asked mode place held c turn now
 
-pub turned : (table : References) (foreign : Bool) (place : Place) (held : List ℕ) (c : ℕ) (now : List ℕ) (A : Type 0)
+pub turned : (table : References) (foreign : Bool) (place : LexemeState) (held : List ℕ) (c : ℕ) (now : List ℕ) (A : Type 0)
     (done : Option Turn) (turn known : Turn) → MatchOption done A (TurnsTo table foreign place held c now) →
     done ≡ Some turn → turn ≡ known → TurnsTo table foreign place held c now known
 turned table foreign place held c now A outcome turn known m d t =
     subst (TurnsTo table foreign place held c now) t
     (subst (λ o. MatchOption o A (TurnsTo table foreign place held c now)) d m)
 
-pub kept : (place : Place) (done : Option Turn) (turn known : Turn) → IfSome done (KeepsKind place) → done ≡ Some turn →
+pub kept : (place : LexemeState) (done : Option Turn) (turn known : Turn) → IfSome done (KeepsKind place) → done ≡ Some turn →
     turn ≡ known → KeepsKind place known
 kept place outcome turn known m d t = subst (KeepsKind place) t (subst (λ o. IfSome o (KeepsKind place)) d m)
 
 -- a place in an element's text is one in any
-pub raw_place : (kind : TextKind) (raw : RawKind) (place : Place) → IsRawPlace raw place → IsPlaceOf kind place
+pub raw_place : (kind : TextKind) (raw : RawKind) (place : LexemeState) → IsRawPlace raw place → IsPlaceOf kind place
 raw_place kind raw NoLexeme h = tt
 raw_place kind raw (CharacterReference p) h = tt
 raw_place kind raw (RawText k p) h = tt
@@ -66,7 +67,7 @@ abbrev pub some_table : References
 some_table = finite.empty
 
 -- a section that goes on
-pub section_stays : (mode : Mode) (held : List ℕ) (c : ℕ) (turn : SectionTurn) (place : Place) (now : List ℕ) →
+pub section_stays : (mode : Mode) (held : List ℕ) (c : ℕ) (turn : SectionTurn) (place : LexemeState) (now : List ℕ) →
     place ≡ CdataSection → (turn ≡ SectionEnds → ⊥) → SectionTurns mode held c turn now →
     SectionAdvances mode held c turn place now
 section_stays mode held c SectionGoes place now p n t = (p, t.0)

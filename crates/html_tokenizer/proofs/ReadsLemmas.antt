@@ -1,40 +1,40 @@
 -- What a text that goes on does to a sink.
-use Rattle.std.proofs.Common.{◌≡◌, ℕ, Bool, true, false, not, ◌==◌, ◌&&◌, ◌||◌, List, [], ◌∷◌, ◌++◌, length, refl, sym}
-use Rattle.std.proofs.Common.{ap, ◌∙◌, subst, string_bytes, String, IsTrue, IsUtf8, arith, encode_utf8, if◌then◌else◌}
-use Rattle.std.proofs.Common.{Result, Ok, Err, OnOk}
+use Rattle.std.proofs.Common.{◌≡◌, ◌==◌, ◌&&◌, ◌||◌, [], ◌∷◌, ◌++◌, ◌∙◌, if◌then◌else◌, Bool, Err, IsTrue, IsUtf8, List}
+use Rattle.std.proofs.Common.{Ok, OnOk, Result, String, ap, arith, encode_utf8, false, length, not, refl, string_bytes}
+use Rattle.std.proofs.Common.{subst, sym, true, ℕ}
 use Rattle.std.proofs.lemmas.Bool.Decides.{nat_tests}
 use Rattle.std.proofs.lemmas.Str.{chars-append}
 use Rattle.std.specs.Char.{IsScalar}
 use Rattle.std.specs.List.{fold, list_all}
 use Rattle.std.specs.Str.{chars}
 use Rattle.std.specs.String.{string_len}
-use Rattle.reference_tables.specs.References.{References}
+use Rattle.lex_base.specs.References.{References}
 use Rattle.html_lexemes.specs.declared.states.RawKind.{RawKind}
 use Rattle.html_lexemes.specs.declared.states.RawKind.TheVariants.{Rcdata, Rawtext, ScriptData, ScriptDataEscaped}
 use Rattle.html_lexemes.specs.declared.token.Tag.{Tag}
-use Rattle.html_grammar.specs.Characters.{shown}
-use Rattle.html_grammar.specs.Items.{Item, characters, null_character, tag}
-use Rattle.html_grammar.specs.Lexemes.{Lexeme, in_kind, lexeme, lexeme_in, has_references, markup, nothing}
-use Rattle.html_grammar.specs.Lexemes.{ordinary_item, reference_lexeme, told, tagged}
-use Rattle.html_grammar.specs.Meaning.{Meaning}
-use Rattle.html_grammar.specs.Modes.{mode_behind}
-use Rattle.html_grammar.specs.References.{reference}
-use Rattle.html_grammar.specs.Reading.{Reading, ends, goes, tags}
-use Rattle.html_grammar.specs.declared.modes.Mode.{Mode}
-use Rattle.html_grammar.specs.declared.modes.TextKind.{TextKind}
-use Rattle.html_grammar.specs.declared.modes.TextKind.TheVariants.{Ordinary, Plain, Raw}
-use Rattle.html_grammar.proofs.MarkLemmas.{chars-encode}
-use Rattle.lexeme_places.specs.Goings.{may_begin}
-use Rattle.lexeme_places.specs.Places.{place_lexeme}
-use Rattle.lexeme_places.specs.RawSound.{is_escaped}
+use Rattle.token_grammar.specs.Characters.{shown}
+use Rattle.token_grammar.specs.Items.{Item, characters, null_character, tag}
+use Rattle.token_grammar.specs.Lexemes.{Lexeme, emitted, has_references, in_kind, lexeme, lexeme_in, markup, nothing}
+use Rattle.token_grammar.specs.Lexemes.{ordinary_item, reference_lexeme, tagged}
+use Rattle.token_grammar.specs.Meaning.{Meaning}
+use Rattle.token_grammar.specs.Modes.{next_mode}
+use Rattle.token_grammar.specs.References.{reference}
+use Rattle.token_grammar.specs.Reading.{Reading, ends, goes, tags}
+use Rattle.token_grammar.specs.declared.modes.Mode.{Mode}
+use Rattle.token_grammar.specs.declared.modes.TextKind.{TextKind}
+use Rattle.token_grammar.specs.declared.modes.TextKind.TheVariants.{Ordinary, Plain, Raw}
+use Rattle.token_grammar.proofs.MarkLemmas.{chars-encode}
+use Rattle.token_states.specs.Goings.{may_begin}
+use Rattle.token_states.specs.Places.{place_lexeme}
+use Rattle.token_states.specs.RawSound.{is_escaped}
 use Rattle.html_tokenizer.specs.Reads.{Follows, Leaves}
-use Rattle.lexeme_places.specs.Sound.{IsSound}
-use Rattle.lexeme_places.specs.Turns.{IsOver, LeavesText, is_raw_text, is_text, with_more}
+use Rattle.token_states.specs.Sound.{IsSound}
+use Rattle.token_states.specs.Turns.{IsOver, LeavesText, is_raw_text, is_text, with_more}
 use Rattle.html_tokenizer.specs.declared.pending.Pending.{Pending}
-use Rattle.lexeme_places.specs.declared.place.Place.{Place}
-use Rattle.lexeme_places.specs.declared.place.Place.TheVariants.{Text, RawText}
-use Rattle.lexeme_places.specs.declared.place.RawPlace.{RawPlace}
-use Rattle.lexeme_places.proofs.FirstLemmas.{raw_first_in}
+use Rattle.token_states.specs.declared.place.LexemeState.{LexemeState}
+use Rattle.token_states.specs.declared.place.LexemeState.TheVariants.{Text, RawText}
+use Rattle.token_states.specs.declared.place.RawPlace.{RawPlace}
+use Rattle.token_states.proofs.FirstLemmas.{raw_first_in}
 
 length_none : (b : Bool) (n : ℕ) → b ≡ (n == 0) → b ≡ true → n ≡ 0
 length_none b n e h = grind (arith, nat_tests)
@@ -89,19 +89,19 @@ shown_same c e = rw e refl
 
 text_character_of : (table : References) (foreign : Bool) (text : TextKind) (mode : Mode) (c : ℕ) (rest : List ℕ) →
     mode.text ≡ text → IsTrue (is_text text c) → lexeme table foreign mode (c ∷ rest)
-    ≡ told (characters (c ∷ []) ∷ []) mode rest
+    ≡ emitted (characters (c ∷ []) ∷ []) mode rest
 text_character_of table foreign Ordinary mode c rest m h =
     let n = none_of_three (c == 0) (c == 60) (c == 38) h in
     ap (λ t. lexeme_in table foreign t mode c rest) m
     ∙ (ap (λ b. if b then markup table foreign mode rest
     else (if c == 38 then reference_lexeme mode rest (reference table rest)
-    else told (ordinary_item c ∷ []) mode rest)) n.1.0
+    else emitted (ordinary_item c ∷ []) mode rest)) n.1.0
     ∙ (ap (λ b. if b then reference_lexeme mode rest (reference table rest)
-    else told (ordinary_item c ∷ []) mode rest) n.1.1
-    ∙ ap (λ b. told ((if b then null_character else characters (c ∷ [])) ∷ []) mode rest) n.0))
+    else emitted (ordinary_item c ∷ []) mode rest) n.1.1
+    ∙ ap (λ b. emitted ((if b then null_character else characters (c ∷ [])) ∷ []) mode rest) n.0))
 text_character_of table foreign Plain mode c rest m h =
     let n = none_of_three (c == 0) (c == 60) (c == 38) h in
-    ap (λ t. lexeme_in table foreign t mode c rest) m ∙ ap (λ x. told (characters (x ∷ []) ∷ []) mode rest)
+    ap (λ t. lexeme_in table foreign t mode c rest) m ∙ ap (λ x. emitted (characters (x ∷ []) ∷ []) mode rest)
     (sym (shown_same c n.0))
 text_character_of table foreign (Raw kind) mode c rest m h =
     let n = raw_text_is kind c h in
@@ -110,7 +110,7 @@ text_character_of table foreign (Raw kind) mode c rest m h =
     (and_false (c == 38) (has_references kind) n.1.1.0) n.1.1.1 m refl
 
 pub text_character : (table : References) (foreign : Bool) (mode : Mode) (c : ℕ) (rest : List ℕ) →
-    IsTrue (is_text mode.text c) → lexeme table foreign mode (c ∷ rest) ≡ told (characters (c ∷ []) ∷ []) mode rest
+    IsTrue (is_text mode.text c) → lexeme table foreign mode (c ∷ rest) ≡ emitted (characters (c ∷ []) ∷ []) mode rest
 text_character table foreign mode c rest h = text_character_of table foreign mode.text mode c rest refl h
 
 and_both : (a b : Bool) → IsTrue (a && b) → IsTrue a × IsTrue b
@@ -131,7 +131,7 @@ on_ok_map (Ok x) p f = f p
 on_ok_map (Err e) p f = tt
 
 -- the lexeme of a place, from what was found there
-pub found_from : (table : References) (asked f : Bool) (mode now : Mode) (place : Place) (text held : List ℕ)
+pub found_from : (table : References) (asked f : Bool) (mode now : Mode) (place : LexemeState) (text held : List ℕ)
     (l k : Lexeme) → asked ≡ f → now ≡ mode → text ≡ held → l ≡ place_lexeme table asked now place text → l ≡ k →
     place_lexeme table f mode place held ≡ k
 found_from table asked f mode now place text held l k a m t e i =
@@ -143,7 +143,7 @@ module _ {A H : Type 0} (table : References) (means : Meaning A H) where
   abbrev Reads : Mode → A → List ℕ → A → Type 0
   Reads mode state cs final = Reading table means mode state cs final
 
-  abbrev Stays : Mode → Place → List ℕ → A → A → Type 0
+  abbrev Stays : Mode → LexemeState → List ℕ → A → A → Type 0
   Stays mode place cs state final = Leaves table means mode place cs state final
 
   abbrev Joins : Type 0
@@ -156,11 +156,11 @@ module _ {A H : Type 0} (table : References) (means : Meaning A H) where
   pub of_lexeme : (mode : Mode) (cs : List ℕ) (s final : A) (l : Lexeme) → lexeme table (means.foreign s) mode cs ≡ l →
       Follows table means mode l s final → Reads mode s cs final
   of_lexeme mode cs s final nothing e p = ends mode s cs final e p
-  of_lexeme mode cs s final (told items behind rest) e r = goes mode s cs items behind rest final e r
+  of_lexeme mode cs s final (emitted items trailing rest) e r = goes mode s cs items trailing rest final e r
   of_lexeme mode cs s final (tagged t rest) e r = tags mode s cs t rest final e r
 
   -- a reading is what follows the first lexeme
-  pub reading_of : (mode : Mode) (place : Place) (held cs : List ℕ) (s final : A) → place ≡ Text → held ≡ [] →
+  pub reading_of : (mode : Mode) (place : LexemeState) (held cs : List ℕ) (s final : A) → place ≡ Text → held ≡ [] →
       Stays mode place (held ++ cs) s final → Reads mode s cs final
   reading_of mode place held cs s final e h l =
       of_lexeme mode cs s final (lexeme table (means.foreign s) mode cs) refl
@@ -168,7 +168,7 @@ module _ {A H : Type 0} (table : References) (means : Meaning A H) where
       (subst (λ p. Follows table means mode (place_lexeme table (means.foreign s) mode p (held ++ cs)) s final) e l))
 
   -- from a lexeme that is known
-  pub leaves_of : (mode : Mode) (place : Place) (held cs : List ℕ) (s final : A) (l : Lexeme) → place ≡ Text →
+  pub leaves_of : (mode : Mode) (place : LexemeState) (held cs : List ℕ) (s final : A) (l : Lexeme) → place ≡ Text →
       held ≡ [] → lexeme table (means.foreign s) mode cs ≡ l → Follows table means mode l s final →
       Stays mode place (held ++ cs) s final
   leaves_of mode place held cs s final l e h k r =
@@ -176,25 +176,25 @@ module _ {A H : Type 0} (table : References) (means : Meaning A H) where
       (subst (λ x. Follows table means mode (place_lexeme table (means.foreign s) mode Text (x ++ cs)) s final) (sym h)
       (subst (λ x. Follows table means mode x s final) (sym k) r))
 
-  pub text_read : (mode : Mode) (place : Place) (held : List ℕ) (c d : ℕ) (rest : List ℕ) (s1 s2 final : A) →
+  pub text_read : (mode : Mode) (place : LexemeState) (held : List ℕ) (c d : ℕ) (rest : List ℕ) (s1 s2 final : A) →
       place ≡ Text → held ≡ [] → s2 ≡ means.step s1 (characters (d ∷ [])) →
-      ((f : Bool) → lexeme table f mode (c ∷ rest) ≡ told (characters (d ∷ []) ∷ []) mode rest) →
+      ((f : Bool) → lexeme table f mode (c ∷ rest) ≡ emitted (characters (d ∷ []) ∷ []) mode rest) →
       Stays mode place (held ++ rest) s2 final → Stays mode place (held ++ c ∷ rest) s1 final
   text_read mode place held c d rest s1 s2 final e h t k l =
-      leaves_of mode place held (c ∷ rest) s1 final (told (characters (d ∷ []) ∷ []) mode rest) e h
+      leaves_of mode place held (c ∷ rest) s1 final (emitted (characters (d ∷ []) ∷ []) mode rest) e h
       (k (means.foreign s1))
       (subst (λ x. Reads mode x rest final) t (reading_of mode place held rest s2 final e h l))
 
-  pub null_read : (mode : Mode) (place : Place) (held : List ℕ) (c : ℕ) (rest run : List ℕ) (s1 s2 final : A) → Skips →
+  pub null_read : (mode : Mode) (place : LexemeState) (held : List ℕ) (c : ℕ) (rest run : List ℕ) (s1 s2 final : A) → Skips →
       place ≡ Text → held ≡ [] → run ≡ [] →
-      ((f : Bool) → lexeme table f mode (c ∷ rest) ≡ told (null_character ∷ []) mode rest) →
+      ((f : Bool) → lexeme table f mode (c ∷ rest) ≡ emitted (null_character ∷ []) mode rest) →
       s2 ≡ means.step s1 null_character →
       Stays mode place (held ++ rest) (means.step s2 (characters run)) final →
       Stays mode place (held ++ c ∷ rest) s1 final
   null_read mode place held c rest run s1 s2 final k e h n x t l =
       let same : means.step s2 (characters run) ≡ means.step s1 null_character =
       ap (λ r. means.step s2 (characters r)) n ∙ (k s2 ∙ t) in
-      leaves_of mode place held (c ∷ rest) s1 final (told (null_character ∷ []) mode rest) e h (x (means.foreign s1))
+      leaves_of mode place held (c ∷ rest) s1 final (emitted (null_character ∷ []) mode rest) e h (x (means.foreign s1))
       (subst (λ x. Reads mode x rest final) same (reading_of mode place held rest
       (means.step s2 (characters run)) final e h l))
 
@@ -211,7 +211,7 @@ module _ {A H : Type 0} (table : References) (means : Meaning A H) where
       (subst (λ x. Reads mode x cs final) (sym (j s (c ∷ []) left)) r))
 
   -- a character of an element's text is held
-  pub raw_opened : (mode : Mode) (kind : RawKind) (at : RawPlace) (place now : Place) (held after : List ℕ) (c : ℕ)
+  pub raw_opened : (mode : Mode) (kind : RawKind) (at : RawPlace) (place now : LexemeState) (held after : List ℕ) (c : ℕ)
       (rest : List ℕ) (s final : A) → mode.text ≡ Raw kind → place ≡ Text → held ≡ [] → now ≡ RawText kind at →
       after ≡ c ∷ [] →
       Stays mode now (after ++ rest) s final → Stays mode place (held ++ c ∷ rest) s final
@@ -224,7 +224,7 @@ module _ {A H : Type 0} (table : References) (means : Meaning A H) where
       (subst (λ p. Follows table means mode (place_lexeme table (means.foreign s) mode p (after ++ rest)) s final) n l))
 
   -- what stands after an opening
-  pub opened_read : (mode : Mode) (at place now : Place) (held after : List ℕ) (c : ℕ) (rest : List ℕ) (s final : A) →
+  pub opened_read : (mode : Mode) (at place now : LexemeState) (held after : List ℕ) (c : ℕ) (rest : List ℕ) (s final : A) →
       place ≡ Text → held ≡ [] → now ≡ at → after ≡ [] →
       ((f : Bool) → lexeme table f mode (c ∷ rest) ≡ place_lexeme table f mode at rest) →
       Stays mode now (after ++ rest) s final → Stays mode place (held ++ c ∷ rest) s final
@@ -235,47 +235,47 @@ module _ {A H : Type 0} (table : References) (means : Meaning A H) where
       (subst (λ p. Follows table means mode (place_lexeme table (means.foreign s) mode p (after ++ rest)) s final) n l))
 
   -- a lexeme that is over was emitted, with the text that it left
-  pub told_over : (mode behind : Mode) (place now : Place) (held after follow rest left run : List ℕ)
-      (items : List Item) (s told_to final : A) → Joins → Skips →
+  pub emitted_over : (mode trailing : Mode) (place now : LexemeState) (held after follow rest left run : List ℕ)
+      (items : List Item) (s emitted_to final : A) → Joins → Skips →
       IsOver table (means.foreign s) mode place held follow → place_lexeme table (means.foreign s) mode place held
-      ≡ told items behind left → told_to ≡ fold means.step s items → now ≡ Text → after ≡ [] → run ≡ left →
-      Stays behind now (after ++ (follow ++ rest)) (means.step told_to (characters run)) final →
+      ≡ emitted items trailing left → emitted_to ≡ fold means.step s items → now ≡ Text → after ≡ [] → run ≡ left →
+      Stays trailing now (after ++ (follow ++ rest)) (means.step emitted_to (characters run)) final →
       Stays mode place (held ++ (follow ++ rest)) s final
-  told_over mode behind place now held after follow rest left run items s told_to final j k over e t n a r l =
-      let text : IsTrue (list_all (is_text behind.text) left) = subst LeavesText e over.left in
-      let reads : Reads behind (means.step told_to (characters run)) (follow ++ rest) final =
-      reading_of behind now after (follow ++ rest) (means.step told_to (characters run)) final n a l in
-      let further : Reads behind told_to (left ++ (follow ++ rest)) final =
-      run_read behind left (follow ++ rest) told_to final j k text
-      (subst (λ x. Reads behind (means.step told_to (characters x)) (follow ++ rest) final) r reads) in
+  emitted_over mode trailing place now held after follow rest left run items s emitted_to final j k over e t n a r l =
+      let text : IsTrue (list_all (is_text trailing.text) left) = subst LeavesText e over.left in
+      let reads : Reads trailing (means.step emitted_to (characters run)) (follow ++ rest) final =
+      reading_of trailing now after (follow ++ rest) (means.step emitted_to (characters run)) final n a l in
+      let further : Reads trailing emitted_to (left ++ (follow ++ rest)) final =
+      run_read trailing left (follow ++ rest) emitted_to final j k text
+      (subst (λ x. Reads trailing (means.step emitted_to (characters x)) (follow ++ rest) final) r reads) in
       let whole : place_lexeme table (means.foreign s) mode place (held ++ (follow ++ rest))
-      ≡ told items behind (left ++ (follow ++ rest)) = over.settled rest ∙ ap (with_more (follow ++ rest)) e in
+      ≡ emitted items trailing (left ++ (follow ++ rest)) = over.settled rest ∙ ap (with_more (follow ++ rest)) e in
       subst (λ x. Follows table means mode x s final) (sym whole)
-      (subst (λ x. Reads behind x (left ++ (follow ++ rest)) final) t further)
+      (subst (λ x. Reads trailing x (left ++ (follow ++ rest)) final) t further)
 
-  pub tagged_over : (mode behind : Mode) (place now : Place) (held after follow rest left run : List ℕ) (t : Tag)
-      (s told_to final : A) → Skips →
+  pub tagged_over : (mode trailing : Mode) (place now : LexemeState) (held after follow rest left run : List ℕ) (t : Tag)
+      (s emitted_to final : A) → Skips →
       IsOver table (means.foreign s) mode place held follow → place_lexeme table (means.foreign s) mode place held
-      ≡ tagged t left → told_to ≡ means.step s (tag t) → behind ≡ mode_behind mode t (means.reply s (tag t)) →
+      ≡ tagged t left → emitted_to ≡ means.step s (tag t) → trailing ≡ next_mode mode t (means.reply s (tag t)) →
       now ≡ Text → after ≡ [] → run ≡ [] →
-      Stays behind now (after ++ (follow ++ rest)) (means.step told_to (characters run)) final →
+      Stays trailing now (after ++ (follow ++ rest)) (means.step emitted_to (characters run)) final →
       Stays mode place (held ++ (follow ++ rest)) s final
-  tagged_over mode behind place now held after follow rest left run t s told_to final k over e p b n a r l =
+  tagged_over mode trailing place now held after follow rest left run t s emitted_to final k over e p b n a r l =
       let none : left ≡ [] = subst LeavesText e over.left in
-      let reads : Reads behind (means.step told_to (characters run)) (follow ++ rest) final =
-      reading_of behind now after (follow ++ rest) (means.step told_to (characters run)) final n a l in
-      let same : means.step told_to (characters run) ≡ means.step s (tag t) =
-      ap (λ x. means.step told_to (characters x)) r ∙ (k told_to ∙ p) in
-      let further : Reads (mode_behind mode t (means.reply s (tag t))) (means.step s (tag t)) (follow ++ rest) final =
+      let reads : Reads trailing (means.step emitted_to (characters run)) (follow ++ rest) final =
+      reading_of trailing now after (follow ++ rest) (means.step emitted_to (characters run)) final n a l in
+      let same : means.step emitted_to (characters run) ≡ means.step s (tag t) =
+      ap (λ x. means.step emitted_to (characters x)) r ∙ (k emitted_to ∙ p) in
+      let further : Reads (next_mode mode t (means.reply s (tag t))) (means.step s (tag t)) (follow ++ rest) final =
       subst (λ m. Reads m (means.step s (tag t)) (follow ++ rest) final) b
-      (subst (λ x. Reads behind x (follow ++ rest) final) same reads) in
+      (subst (λ x. Reads trailing x (follow ++ rest) final) same reads) in
       let whole : place_lexeme table (means.foreign s) mode place (held ++ (follow ++ rest))
       ≡ tagged t (follow ++ rest) =
       over.settled rest ∙ (ap (with_more (follow ++ rest)) e ∙ ap (λ x. tagged t (x ++ (follow ++ rest))) none)
       in
       subst (λ x. Follows table means mode x s final) (sym whole) further
 
-  pub never_nothing : (mode : Mode) (place : Place) (held follow : List ℕ) (f : Bool) →
+  pub never_nothing : (mode : Mode) (place : LexemeState) (held follow : List ℕ) (f : Bool) →
       IsOver table f mode place held follow → place_lexeme table f mode place held ≡ nothing → ⊥
   never_nothing mode place held follow f over e = subst LeavesText e over.left
 

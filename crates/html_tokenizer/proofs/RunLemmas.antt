@@ -1,20 +1,19 @@
 -- A run of text is taken as its characters are, one by one.
-use Rattle.std.proofs.Common.{◌≡◌, ◌∙◌, ap, arith, refl, subst, sym, ℕ, ◌+◌, ◌-◌, ◌^◌, ◌<◌, min, suc}
-use Rattle.std.proofs.Common.{Option, Some, None, MatchOption}
-use Rattle.std.proofs.Common.{Bool, true, false, not, IsTrue, ◌==◌, ◌||◌, ◌&&◌, if◌then◌else◌}
-use Rattle.std.proofs.Common.{List, [], ◌∷◌, ◌++◌, append_assoc, length}
+use Rattle.std.proofs.Common.{◌≡◌, ◌∙◌, ◌+◌, ◌-◌, ◌^◌, ◌<◌, ◌==◌, ◌||◌, ◌&&◌, if◌then◌else◌, [], ◌∷◌, ◌++◌, Bool}
+use Rattle.std.proofs.Common.{IsTrue, List, MatchOption, None, Option, Some, ap, append_assoc, arith, false, length}
+use Rattle.std.proofs.Common.{min, not, refl, subst, suc, sym, true, ℕ}
 use Rattle.std.proofs.lemmas.Bool.{and_from, and_parts}
 use Rattle.std.specs.List.{list_all}
 use Rattle.html_lexemes.specs.LineEnds.{begins_with_line_feed, lines_ended}
 use Rattle.html_lexemes.specs.Queue.{Queue, Takes, counted, is_free_of, is_in}
-use Rattle.reference_tables.specs.References.{References}
+use Rattle.lex_base.specs.References.{References}
 use Rattle.html_lexemes.specs.declared.states.RawKind.TheVariants.{Rcdata, Rawtext, ScriptData, ScriptDataEscaped}
-use Rattle.html_grammar.specs.Items.{characters}
-use Rattle.html_grammar.specs.Lexemes.{told}
-use Rattle.html_grammar.specs.Meaning.{Meaning}
-use Rattle.html_grammar.specs.declared.modes.Mode.{Mode}
-use Rattle.html_grammar.specs.declared.modes.TextKind.{TextKind}
-use Rattle.html_grammar.specs.declared.modes.TextKind.TheVariants.{Ordinary, Plain, Raw}
+use Rattle.token_grammar.specs.Items.{characters}
+use Rattle.token_grammar.specs.Lexemes.{emitted}
+use Rattle.token_grammar.specs.Meaning.{Meaning}
+use Rattle.token_grammar.specs.declared.modes.Mode.{Mode}
+use Rattle.token_grammar.specs.declared.modes.TextKind.{TextKind}
+use Rattle.token_grammar.specs.declared.modes.TextKind.TheVariants.{Ordinary, Plain, Raw}
 use Rattle.html_tokenizer.proofs.QueueTaken.{each_on, taken_more, taken_on}
 use Rattle.html_tokenizer.proofs.PauseMarks.{HasTaken}
 use Rattle.html_tokenizer.proofs.ReadsLemmas.{leaves_of, reading_of, run_read, text_character}
@@ -22,10 +21,10 @@ use Rattle.html_tokenizer.specs.Completes.{TakesEach, TakesSome}
 use Rattle.html_tokenizer.specs.Reads.{Leaves}
 use Rattle.html_tokenizer.specs.Runs.{TakesFront, TakesRun}
 use Rattle.html_tokenizer.specs.Stops.{stops}
-use Rattle.lexeme_places.specs.Goings.{IsGoing}
-use Rattle.lexeme_places.specs.Turns.{is_text}
-use Rattle.lexeme_places.specs.declared.place.Place.{Place}
-use Rattle.lexeme_places.specs.declared.place.Place.TheVariants.{Text}
+use Rattle.token_states.specs.Goings.{IsGoing}
+use Rattle.token_states.specs.Turns.{is_text}
+use Rattle.token_states.specs.declared.place.LexemeState.{LexemeState}
+use Rattle.token_states.specs.declared.place.LexemeState.TheVariants.{Text}
 
 -- ---- errors
 
@@ -90,15 +89,15 @@ free_lines text (c ∷ cs) rest h =
     ∙ ap (λ l. c ∷ l) (free_lines text cs rest parts.1)
 
 -- nor in any text without a CR
-pub lines_behind : (cs rest : List ℕ) → IsTrue (list_all (λ c. not (c == 13)) cs) →
+pub lines_after : (cs rest : List ℕ) → IsTrue (list_all (λ c. not (c == 13)) cs) →
     lines_ended (cs ++ rest) ≡ cs ++ lines_ended rest
-lines_behind [] rest h = refl
-lines_behind (c ∷ cs) rest h =
+lines_after [] rest h = refl
+lines_after (c ∷ cs) rest h =
     let parts = and_parts (not (c == 13)) (list_all (λ d. not (d == 13)) cs) h in
     let left = lines_ended (cs ++ rest) in
     let returned = if begins_with_line_feed (cs ++ rest) then left else 10 ∷ left in
     ap (λ b. if b then returned else c ∷ left) (not_so (c == 13) parts.0)
-    ∙ ap (λ l. c ∷ l) (lines_behind cs rest parts.1)
+    ∙ ap (λ l. c ∷ l) (lines_after cs rest parts.1)
   where
     not_so : (b : Bool) → IsTrue (not b) → b ≡ false
     not_so true e = absurd (let k : false ≡ true = e in cc)
@@ -108,7 +107,7 @@ lines_behind (c ∷ cs) rest h =
 
 module _ {A H : Type 0} (table : References) (means : Meaning A H) where
   -- what is held at a place, which stays, is read as if it stood in what follows
-  pub run_held : (mode now : Mode) (place at : Place) (held more cs left : List ℕ) (s t final : A) → now ≡ mode →
+  pub run_held : (mode now : Mode) (place at : LexemeState) (held more cs left : List ℕ) (s t final : A) → now ≡ mode →
       at ≡ place → more ≡ held ++ cs → t ≡ s → Leaves table means now at (more ++ left) t final →
       Leaves table means mode place (held ++ (cs ++ left)) s final
   run_held mode now place at held more cs left s t final m p e u l =
@@ -119,7 +118,7 @@ module _ {A H : Type 0} (table : References) (means : Meaning A H) where
       (subst (λ x. Leaves table means x at (more ++ left) t final) m l))))
 
   -- what is emitted after some characters in one piece, and what stands after them, is read of both
-  pub run_taken : (mode : Mode) (place : Place) (held cs rest : List ℕ) (s final : A) →
+  pub run_taken : (mode : Mode) (place : LexemeState) (held cs rest : List ℕ) (s final : A) →
       ((state : A) (ds es : List ℕ) →
       means.step (means.step state (characters ds)) (characters es) ≡ means.step state (characters (ds ++ es))) →
       ((state : A) → means.step state (characters []) ≡ state) →
@@ -130,16 +129,16 @@ module _ {A H : Type 0} (table : References) (means : Meaning A H) where
       subst (λ x. Leaves table means mode place (held ++ rest) x final) (skips s) l
   run_taken mode place held (c ∷ cs) rest s final joins skips e h t l =
       let both = and_parts (is_text mode.text c) (list_all (is_text mode.text) cs) t in
-      let behind = means.step s (characters (c ∷ [])) in
+      let trailing = means.step s (characters (c ∷ [])) in
       leaves_of table means mode place held (c ∷ (cs ++ rest)) s final
-      (told (characters (c ∷ []) ∷ []) mode (cs ++ rest)) e h
+      (emitted (characters (c ∷ []) ∷ []) mode (cs ++ rest)) e h
       (text_character table (means.foreign s) mode c (cs ++ rest) both.0)
-      (run_read table means mode cs rest behind final joins skips both.1
-      (reading_of table means mode place held rest (means.step behind (characters cs)) final e h
+      (run_read table means mode cs rest trailing final joins skips both.1
+      (reading_of table means mode place held rest (means.step trailing (characters cs)) final e h
       (subst (λ x. Leaves table means mode place (held ++ rest) x final) (sym (joins s (c ∷ []) cs)) l)))
 
 -- what is held goes on with it
-pub going_held : (table : References) (mode now : Mode) (place at : Place) (held more cs : List ℕ) → now ≡ mode →
+pub going_held : (table : References) (mode now : Mode) (place at : LexemeState) (held more cs : List ℕ) → now ≡ mode →
     at ≡ place → more ≡ held ++ cs → IsGoing table mode.last_start_tag place (held ++ cs) →
     IsGoing table now.last_start_tag at more
 going_held table mode now place at held more cs m p e h =
@@ -170,15 +169,15 @@ counts_none : (t m : ℕ) → min (min (t + 0) m + 1) m ≡ min (t + 1) m
 counts_none t m = omega arith
 
 -- A run that may be empty, and what stands after it, where the queue is not.
-behind_front : {A : Type 0} (completes now : List ℕ → A → Type 0) (old between new : Queue) (behind : Option ℕ)
+after_front : {A : Type 0} (completes now : List ℕ → A → Type 0) (old between new : Queue) (trailing : Option ℕ)
     (cs : List ℕ) → (old.text ≡ [] → ⊥) → Takes old cs between →
     ((rest : List ℕ) (final : A) → now rest final → completes (cs ++ rest) final) →
-    MatchOption behind ((between.text ≡ []) × (new ≡ between)) (λ c. Takes between (c ∷ []) new) →
-    TakesRun completes now old behind new
-behind_front completes now old between new behind (c ∷ cs) some t reads m =
+    MatchOption trailing ((between.text ≡ []) × (new ≡ between)) (λ c. Takes between (c ∷ []) new) →
+    TakesRun completes now old trailing new
+after_front completes now old between new trailing (c ∷ cs) some t reads m =
     record { between = between; taken = c ∷ cs; takes = each_of old c cs between t; reads = reads; character = m }
-behind_front completes now old between new None [] some t reads m = absurd (some (t.text ∙ m.0))
-behind_front completes now old between new (Some c) [] some t reads m = record {
+after_front completes now old between new None [] some t reads m = absurd (some (t.text ∙ m.0))
+after_front completes now old between new (Some c) [] some t reads m = record {
   between = old;
   taken = [];
   takes = refl;
@@ -189,31 +188,31 @@ behind_front completes now old between new (Some c) [] some t reads m = record {
   };
 }
 
-pub front_run : {A : Type 0} {completes now : List ℕ → A → Type 0} {old between new : Queue} {behind : Option ℕ} →
+pub front_run : {A : Type 0} {completes now : List ℕ → A → Type 0} {old between new : Queue} {trailing : Option ℕ} →
     (old.text ≡ [] → ⊥) → TakesFront completes now old between →
-    MatchOption behind ((between.text ≡ []) × (new ≡ between)) (λ c. Takes between (c ∷ []) new) →
-    TakesRun completes now old behind new
-front_run {completes = completes} {now = now} {old = old} {between = between} {new = new} {behind = behind} some f m =
-    behind_front completes now old between new behind f.taken some f.takes f.reads m
+    MatchOption trailing ((between.text ≡ []) × (new ≡ between)) (λ c. Takes between (c ∷ []) new) →
+    TakesRun completes now old trailing new
+front_run {completes = completes} {now = now} {old = old} {between = between} {new = new} {trailing = trailing} some f m =
+    after_front completes now old between new trailing f.taken some f.takes f.reads m
 
 -- what was taken stood in front
 each_text : (old : Queue) (cs : List ℕ) (new : Queue) → TakesEach old cs new → old.text ≡ cs ++ new.text
 each_text old [] new e = ap (λ (q : Queue). q.text) (sym e)
 each_text old (c ∷ cs) new e = e.1.0.text ∙ ap (λ l. c ∷ l) (each_text e.0 cs new e.1.1)
 
-shorter_behind : (xs : List ℕ) (c : ℕ) (ys : List ℕ) → length ys < length (xs ++ c ∷ ys)
-shorter_behind [] c ys = omega arith
-shorter_behind (x ∷ xs) c ys = omega (arith, shorter_behind xs c ys)
+shorter_after : (xs : List ℕ) (c : ℕ) (ys : List ℕ) → length ys < length (xs ++ c ∷ ys)
+shorter_after [] c ys = omega arith
+shorter_after (x ∷ xs) c ys = omega (arith, shorter_after xs c ys)
 
 -- ---- a run, and what stands after it
 
 module _ {A : Type 0} {completes now : List ℕ → A → Type 0} {old new : Queue} where
-  run_takes : {behind : Option ℕ} (r : TakesRun completes now old behind new) → TakesSome old r.between
+  run_takes : {trailing : Option ℕ} (r : TakesRun completes now old trailing new) → TakesSome old r.between
   run_takes r = record { taken = r.taken; takes = r.takes }
 
   -- a run goes on from what was taken before it
-  pub run_on : {first : List ℕ → A → Type 0} {begun : Queue} {behind : Option ℕ} → HasTaken first completes begun old →
-      (r : TakesRun completes now old behind new) → HasTaken first now begun r.between
+  pub run_on : {first : List ℕ → A → Type 0} {begun : Queue} {trailing : Option ℕ} → HasTaken first completes begun old →
+      (r : TakesRun completes now old trailing new) → HasTaken first now begun r.between
   run_on {first = first} {begun = begun} h r = record {
     taken = h.taken ++ r.taken;
     takes = each_on begun h.taken old r.taken r.between h.takes r.takes;
@@ -221,7 +220,7 @@ module _ {A : Type 0} {completes now : List ℕ → A → Type 0} {old new : Que
         (h.reads (r.taken ++ rest) final (r.reads rest final l));
   }
 
-  pub run_text : {behind : Option ℕ} (r : TakesRun completes now old behind new) (rest : List ℕ) (final : A) →
+  pub run_text : {trailing : Option ℕ} (r : TakesRun completes now old trailing new) (rest : List ℕ) (final : A) →
       now (r.between.text ++ rest) final → completes (old.text ++ rest) final
   run_text r rest final l =
       subst (λ x. completes (x ++ rest) final) (sym (each_text old r.taken r.between r.takes))
@@ -229,7 +228,7 @@ module _ {A : Type 0} {completes now : List ℕ → A → Type 0} {old new : Que
       (r.reads (r.between.text ++ rest) final l))
 
   -- a character stands after it
-  pub with_character : {behind : Option ℕ} {c : ℕ} → behind ≡ Some c → TakesRun completes now old behind new →
+  pub with_character : {trailing : Option ℕ} {c : ℕ} → trailing ≡ Some c → TakesRun completes now old trailing new →
       TakesRun completes now old (Some c) new
   with_character e r = subst (λ b. TakesRun completes now old b new) e r
 
@@ -237,7 +236,7 @@ module _ {A : Type 0} {completes now : List ℕ → A → Type 0} {old new : Que
   turn_shorter {c = c} r =
       subst (λ (l : List ℕ). length new.text < length l) (sym (each_text old r.taken r.between r.takes))
       (subst (λ l. length new.text < length (r.taken ++ l)) (sym r.character.text)
-      (shorter_behind r.taken c new.text))
+      (shorter_after r.taken c new.text))
 
   pub turn_takes : {c : ℕ} {begun : Queue} → TakesSome begun old → TakesRun completes now old (Some c) new →
       TakesSome begun new
@@ -251,10 +250,10 @@ module _ {A : Type 0} {completes now : List ℕ → A → Type 0} {old new : Que
       run_text r rest final (subst (λ x. now (x ++ rest) final) (sym r.character.text) (f (new.text ++ rest) final l))
 
   -- nothing stands after it
-  pub with_none : {behind : Option ℕ} → ((c : ℕ) → behind ≡ Some c → ⊥) → TakesRun completes now old behind new →
+  pub with_none : {trailing : Option ℕ} → ((c : ℕ) → trailing ≡ Some c → ⊥) → TakesRun completes now old trailing new →
       TakesRun completes now old None new
-  with_none {behind = None} none r = r
-  with_none {behind = Some c} none r = absurd (none c refl)
+  with_none {trailing = None} none r = r
+  with_none {trailing = Some c} none r = absurd (none c refl)
 
   pub last_takes : {begun : Queue} → TakesSome begun old → TakesRun completes now old None new → TakesSome begun new
   last_takes {begun = begun} s r =

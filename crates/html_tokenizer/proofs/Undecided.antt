@@ -1,25 +1,25 @@
 -- What is held of a lexeme that goes on is no lexeme yet.
-use Rattle.std.proofs.Common.{◌≡◌, ℕ, Bool, true, false, not, ◌==◌, ◌||◌, if◌then◌else◌, List, [], ◌∷◌, ◌++◌, IsTrue}
-use Rattle.std.proofs.Common.{refl, ap, ◌∙◌, subst}
+use Rattle.std.proofs.Common.{◌≡◌, ◌==◌, ◌||◌, if◌then◌else◌, [], ◌∷◌, ◌++◌, ◌∙◌, Bool, IsTrue, List, ap, false, not}
+use Rattle.std.proofs.Common.{refl, subst, true, ℕ}
 use Rattle.std.proofs.lemmas.Bool.{and_parts}
 use Rattle.html_lexemes.specs.LineEnds.{begins_with_line_feed, lines_ended}
-use Rattle.reference_tables.specs.References.{References}
-use Rattle.html_grammar.specs.declared.modes.Mode.{Mode}
+use Rattle.lex_base.specs.References.{References}
+use Rattle.token_grammar.specs.declared.modes.Mode.{Mode}
 use Rattle.html_tokenizer.specs.Inside.{IsUndecidedAt}
-use Rattle.lexeme_places.specs.Goings.{IsGoing}
+use Rattle.token_states.specs.Goings.{IsGoing}
 use Rattle.html_tokenizer.specs.Holdings.{Holds, held_of}
-use Rattle.lexeme_places.specs.OpenEnds.{IsOpenEnded, is_steady}
+use Rattle.token_states.specs.OpenEnds.{IsOpenEnded, is_steady}
 use Rattle.html_tokenizer.specs.PageRest.{page_rest}
-use Rattle.lexeme_places.specs.Places.{place_lexeme}
-use Rattle.lexeme_places.specs.Turns.{with_more}
+use Rattle.token_states.specs.Places.{place_lexeme}
+use Rattle.token_states.specs.Turns.{with_more}
 use Rattle.html_tokenizer.specs.declared.line_ends.LineEnds.{LineEnds}
 use Rattle.html_tokenizer.specs.declared.line_ends.LineEnds.TheVariants.{AtMark, AfterReturn, Within}
-use Rattle.lexeme_places.specs.declared.place.Place.{Place}
+use Rattle.token_states.specs.declared.place.LexemeState.{LexemeState}
 use Rattle.html_tokenizer.specs.declared.reader.Reader.{Reader}
 
 -- no lexeme stands where one goes on
 abbrev pub AreOpenEnded : References → Type 0
-AreOpenEnded table = (foreign : Bool) (mode : Mode) (place : Place) (held : List ℕ) →
+AreOpenEnded table = (foreign : Bool) (mode : Mode) (place : LexemeState) (held : List ℕ) →
     IsGoing table mode.last_start_tag place held → IsOpenEnded table foreign mode place held
 
 -- ---- a steady text of a page is that text

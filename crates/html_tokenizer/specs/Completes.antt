@@ -2,17 +2,17 @@
 -- this crate unfolds them, so that how a tokenizer holds what it has read may change below them.
 use Rattle.std.specs.Prelude.{◌≡◌, ℕ, Bool, false, List, [], ◌∷◌, ◌++◌, Option}
 use Rattle.html_lexemes.specs.Queue.{Queue, Takes}
-use Rattle.reference_tables.specs.References.{References}
-use Rattle.html_lexemes.specs.declared.token.TokenSinkResult.TheVariants.{Script as AskedScript}
+use Rattle.lex_base.specs.References.{References}
 use Rattle.html_lexemes.specs.declared.token.TokenSinkResult.TheVariants.{EncodingIndicator as AskedEncoding}
-use Rattle.html_grammar.specs.Items.{Item}
-use Rattle.html_grammar.specs.Meaning.{Meaning}
-use Rattle.html_grammar.specs.declared.modes.Mode.{Mode}
-use Rattle.html_grammar.specs.declared.modes.TextKind.TheVariants.{Plain}
+use Rattle.html_lexemes.specs.declared.token.TokenSinkResult.TheVariants.{Script as AskedScript}
+use Rattle.token_grammar.specs.Items.{Item}
+use Rattle.token_grammar.specs.Meaning.{Meaning}
+use Rattle.token_grammar.specs.declared.modes.Mode.{Mode}
+use Rattle.token_grammar.specs.declared.modes.TextKind.TheVariants.{Plain}
 use Rattle.html_tokenizer.specs.Fits.{IsFitReader}
 use Rattle.html_tokenizer.specs.Inside as inside
 use Rattle.html_tokenizer.specs.PageRest.{page_rest}
-use Rattle.html_tokenizer.specs.Tells.{TellsOn, TellsUpTo}
+use Rattle.html_tokenizer.specs.Emits.{EmitsOn, EmitsUpTo}
 use Rattle.html_tokenizer.specs.declared.results.TokenizerResult.{TokenizerResult}
 use Rattle.html_tokenizer.specs.declared.results.TokenizerResult.TheVariants.{Done, Script, EncodingIndicator}
 use Rattle.html_tokenizer.specs.declared.tokenizer.Tokenizer.{Tokenizer}
@@ -31,8 +31,8 @@ unfoldable pub Completes : {S A H : Type 0} → (S → A) → Meaning A H → To
 Completes state means tokenizer rest final = inside.Completes state means tokenizer rest final
 
 -- the text that was read is emitted
-unfoldable pub HasTold : {S : Type 0} → Tokenizer S → Type 0
-HasTold tokenizer = inside.HasTold tokenizer
+unfoldable pub HasEmitted : {S : Type 0} → Tokenizer S → Type 0
+HasEmitted tokenizer = inside.HasEmitted tokenizer
 
 -- nothing is held back either
 unfoldable pub IsEmptied : {S : Type 0} → Tokenizer S → Type 0
@@ -46,7 +46,7 @@ IsUndecided tokenizer = inside.IsUndecided tokenizer
 unfoldable pub is_text_state : {S : Type 0} → Tokenizer S → Bool
 is_text_state tokenizer = inside.is_text_state tokenizer
 
--- no character is held back, and no text is untold
+-- no character is held back, and no text waits to be emitted
 unfoldable pub nothing_pending : {S : Type 0} → Tokenizer S → Bool
 nothing_pending tokenizer = inside.nothing_pending tokenizer
 
@@ -66,9 +66,9 @@ plain_mode last = record { text = Plain; last_start_tag = last }
 
 -- What a result says of what was emitted: no pause was asked for, or this one, by what was emitted last.
 abbrev pub Answers : {A H : Type 0} → Meaning A H → TokenizerResult H → A → A → Type 0
-Answers means Done old new = TellsOn means old new
-Answers means (Script handle) old new = TellsUpTo means (AskedScript handle) old new
-Answers means (EncodingIndicator encoding) old new = TellsUpTo means (AskedEncoding encoding) old new
+Answers means Done old new = EmitsOn means old new
+Answers means (Script handle) old new = EmitsUpTo means (AskedScript handle) old new
+Answers means (EncodingIndicator encoding) old new = EmitsUpTo means (AskedEncoding encoding) old new
 
 -- each of the characters was taken from the front, once
 abbrev pub TakesEach : Queue → List ℕ → Queue → Type 0
@@ -81,11 +81,11 @@ pub record TakesSome (old new : Queue) : Type 0 where
 
 -- The pause is due to the mark that was taken last: what was taken before it leaves a tokenizer that was asked for no
 -- pause since its sink was in the state `begun`, and stands where no lexeme is over.
-pub record PausesBehind {S A H : Type 0} (state : S → A) (means : Meaning A H) (mark : ℕ) (begun : A)
+pub record PausesAfter {S A H : Type 0} (state : S → A) (means : Meaning A H) (mark : ℕ) (begun : A)
     (completes : List ℕ → A → Type 0) (old new : Queue) : Type 0 where
   pub taken : List ℕ
   pub takes : TakesEach old (taken ++ mark ∷ []) new
   pub before : Tokenizer S
-  pub on : TellsOn means begun (state before.sink)
+  pub on : EmitsOn means begun (state before.sink)
   pub undecided : IsUndecided before
   pub reads : (rest : List ℕ) (final : A) → Completes state means before rest final → completes (taken ++ rest) final

@@ -1,7 +1,7 @@
 -- When a tokenizer may be called.
-use Rattle.html_grammar.specs.Items.{Item}
-use Rattle.html_grammar.specs.Kinds.{IsReadyFor}
-use Rattle.lexeme_places.specs.PlaceKinds.{IsPlaceOf}
+use Rattle.token_grammar.specs.Items.{Item}
+use Rattle.token_grammar.specs.Kinds.{IsReadyFor}
+use Rattle.token_states.specs.PlaceKinds.{IsPlaceOf}
 use Rattle.html_tokenizer.specs.declared.reader.Reader.{Reader}
 
 -- The sink is ready for the text that is read, and what is held back is of that text.

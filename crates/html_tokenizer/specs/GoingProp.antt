@@ -1,19 +1,20 @@
 -- What is held of a lexeme that goes on is a fact: it holds in one way.
 use Rattle.std.specs.Prelude.{ℕ, Bool, true, false, List, [], ◌∷◌, Option}
 use Rattle.std.proofs.Props.{props}
-use Rattle.reference_tables.specs.References.{References}
-use Rattle.lexeme_places.specs.Goings.{IsGoing}
+use Rattle.lex_base.specs.References.{References}
+use Rattle.token_states.specs.Goings.{IsGoing}
 use Rattle.html_tokenizer.specs.Holdings.{HoldsUnless, held_of}
-use Rattle.lexeme_places.specs.SoundProp.{IsSound-prop}
-use Rattle.lexeme_places.specs.declared.place.Place.{Place}
-use Rattle.lexeme_places.specs.declared.place.Place.TheVariants.{Text, CharacterReference, TagOpen, EndTagOpen, Tag}
-use Rattle.lexeme_places.specs.declared.place.Place.TheVariants.{MarkupDeclarationOpen, BogusComment, Comment, Doctype}
-use Rattle.lexeme_places.specs.declared.place.Place.TheVariants.{CdataSection, RawText}
-use Rattle.lexeme_places.specs.declared.place.ReferencePlace.TheVariants.{Named, Numeric, HexadecimalStart, Decimal}
-use Rattle.lexeme_places.specs.declared.place.ReferencePlace.TheVariants.{Hexadecimal}
+use Rattle.token_states.specs.SoundProp.{IsSound-prop}
+use Rattle.token_states.specs.declared.place.LexemeState.{LexemeState}
+use Rattle.token_states.specs.declared.place.LexemeState.TheVariants.{BogusComment, CdataSection, CharacterReference}
+use Rattle.token_states.specs.declared.place.LexemeState.TheVariants.{Comment, Doctype, EndTagOpen}
+use Rattle.token_states.specs.declared.place.LexemeState.TheVariants.{MarkupDeclarationOpen, RawText, Tag, TagOpen}
+use Rattle.token_states.specs.declared.place.LexemeState.TheVariants.{Text}
+use Rattle.token_states.specs.declared.place.ReferencePlace.TheVariants.{Decimal, Hexadecimal, HexadecimalStart, Named}
+use Rattle.token_states.specs.declared.place.ReferencePlace.TheVariants.{Numeric}
 use Rattle.html_tokenizer.specs.declared.reader.Reader.{Reader}
 
-pub IsGoing-prop : (table : References) (last : Option (List ℕ)) (place : Place) (held : List ℕ) →
+pub IsGoing-prop : (table : References) (last : Option (List ℕ)) (place : LexemeState) (held : List ℕ) →
     IsProp (IsGoing table last place held)
 IsGoing-prop table last Text held = IsSound-prop Text held
 IsGoing-prop table last (CharacterReference Named) [] = hlevel props

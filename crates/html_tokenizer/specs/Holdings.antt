@@ -1,10 +1,10 @@
 -- What a reader holds.
 use Rattle.std.specs.Prelude.{◌≡◌, Bool, true, false, List, ℕ, [], chars, string_bytes, IsTrue}
-use Rattle.reference_tables.specs.References.{References}
+use Rattle.lex_base.specs.References.{References}
 use Rattle.html_lexemes.specs.declared.states.RawKind.{RawKind}
-use Rattle.lexeme_places.specs.Goings.{IsGoing, is_raw_going}
-use Rattle.lexeme_places.specs.declared.place.Place.TheVariants.{RawText, Text}
-use Rattle.lexeme_places.specs.declared.place.RawPlace.{RawPlace}
+use Rattle.token_states.specs.Goings.{IsGoing, is_raw_going}
+use Rattle.token_states.specs.declared.place.LexemeState.TheVariants.{RawText, Text}
+use Rattle.token_states.specs.declared.place.RawPlace.{RawPlace}
 use Rattle.html_tokenizer.specs.declared.reader.Reader.{Reader}
 
 abbrev pub held_of : Reader → List ℕ
@@ -23,7 +23,7 @@ abbrev pub HoldsUnless : Bool → References → Reader → Type 0
 HoldsUnless true table reader = Unit {0}
 HoldsUnless false table reader = Holds table reader
 
--- Nothing is held, and no text is untold.
+-- Nothing is held, and no text waits to be emitted.
 pub record HoldsNothing (reader : Reader) : Type 0 where
   pub place : reader.pending.place ≡ Text
   pub held : held_of reader ≡ []

@@ -1,21 +1,21 @@
 -- What the contracts of a tokenizer's own functions say of it.
 use Rattle.std.specs.Prelude.{◌≡◌, ℕ, Bool, ◌&&◌, ◌==◌, List, [], ◌++◌, length, IsTrue, string_bytes}
-use Rattle.reference_tables.specs.References.{References}
-use Rattle.html_grammar.specs.Lexemes.{Lexeme}
-use Rattle.html_grammar.specs.Meaning.{Meaning}
+use Rattle.lex_base.specs.References.{References}
+use Rattle.token_grammar.specs.Lexemes.{Lexeme}
+use Rattle.token_grammar.specs.Meaning.{Meaning}
 use Rattle.html_tokenizer.specs.Holdings.{HoldsNothing, held_of}
-use Rattle.lexeme_places.specs.MarkupSound.{is_begun_section_end}
+use Rattle.token_states.specs.MarkupSound.{is_begun_section_end}
 use Rattle.html_tokenizer.specs.PageRest.{page_rest}
-use Rattle.lexeme_places.specs.PlaceKinds.{is_of_text, is_open}
-use Rattle.lexeme_places.specs.Places.{place_lexeme}
+use Rattle.token_states.specs.PlaceKinds.{is_of_text, is_open}
+use Rattle.token_states.specs.Places.{place_lexeme}
 use Rattle.html_tokenizer.specs.Reads.{Reads}
-use Rattle.lexeme_places.specs.Turns.{with_more}
-use Rattle.lexeme_places.specs.declared.place.Place.TheVariants.{CdataSection}
+use Rattle.token_states.specs.Turns.{with_more}
+use Rattle.token_states.specs.declared.place.LexemeState.TheVariants.{CdataSection}
 use Rattle.html_tokenizer.specs.declared.line_ends.LineEnds.{LineEnds}
 use Rattle.html_tokenizer.specs.declared.reader.Pause.{Pause}
 use Rattle.html_tokenizer.specs.declared.reader.Reader.{Reader}
-use Rattle.html_tokenizer.specs.declared.reader.Pause.TheVariants.{Script as PauseScript}
 use Rattle.html_tokenizer.specs.declared.reader.Pause.TheVariants.{EncodingIndicator as PauseEncoding}
+use Rattle.html_tokenizer.specs.declared.reader.Pause.TheVariants.{Script as PauseScript}
 use Rattle.html_tokenizer.specs.declared.results.TokenizerResult.{TokenizerResult}
 use Rattle.html_tokenizer.specs.declared.results.TokenizerResult.TheVariants.{Script, EncodingIndicator}
 use Rattle.html_tokenizer.specs.declared.tokenizer.Tokenizer.{Tokenizer}
@@ -26,8 +26,8 @@ Completes state means tokenizer rest final =
     Reads tokenizer.table means tokenizer.reader (state tokenizer.sink) (page_rest tokenizer.line_ends rest) final
 
 -- the text that was read is emitted
-abbrev pub HasTold : {S : Type 0} → Tokenizer S → Type 0
-HasTold tokenizer = string_bytes tokenizer.reader.run ≡ []
+abbrev pub HasEmitted : {S : Type 0} → Tokenizer S → Type 0
+HasEmitted tokenizer = string_bytes tokenizer.reader.run ≡ []
 
 -- nothing is held back either
 abbrev pub IsEmptied : {S : Type 0} → Tokenizer S → Type 0
@@ -54,7 +54,7 @@ result_of (PauseEncoding encoding) = EncodingIndicator encoding
 abbrev pub is_text_state : {S : Type 0} → Tokenizer S → Bool
 is_text_state tokenizer = is_of_text tokenizer.reader.pending.place
 
--- no character is held back, and no text is untold
+-- no character is held back, and no text waits to be emitted
 abbrev pub nothing_pending : {S : Type 0} → Tokenizer S → Bool
 nothing_pending tokenizer =
     is_open tokenizer.reader.pending.place && length (string_bytes tokenizer.reader.pending.held) == 0

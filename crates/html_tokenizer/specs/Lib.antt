@@ -10,4 +10,4 @@ pub mod Pieces
 pub mod Reads
 pub mod Runs
 pub mod Stops
-pub mod Tells
+pub mod Emits

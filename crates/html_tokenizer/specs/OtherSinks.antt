@@ -1,7 +1,7 @@
 -- A tokenizer whose sink was changed from outside, but for its state: it goes on as it would have.
 use Rattle.std.specs.Prelude.{◌≡◌, ℕ, List}
-use Rattle.html_grammar.specs.Items.{Item}
-use Rattle.html_grammar.specs.Meaning.{Meaning}
+use Rattle.token_grammar.specs.Items.{Item}
+use Rattle.token_grammar.specs.Meaning.{Meaning}
 use Rattle.html_tokenizer.specs.Completes.{Completes, IsFit, has_failed}
 use Rattle.html_tokenizer.specs.Holdings.{HoldsUnless}
 use Rattle.html_tokenizer.specs.declared.tokenizer.Tokenizer.{Tokenizer}

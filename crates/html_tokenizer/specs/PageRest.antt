@@ -14,5 +14,5 @@ page_rest AfterReturn cs = after_return cs
 page_rest Within cs = lines_ended cs
 
 -- the text of what follows a character
-abbrev pub rest_behind : ℕ → List ℕ → List ℕ
-rest_behind c cs = if c == 13 then after_return cs else lines_ended cs
+abbrev pub rest_after : ℕ → List ℕ → List ℕ
+rest_after c cs = if c == 13 then after_return cs else lines_ended cs

@@ -1,26 +1,26 @@
 -- What a text that goes on does to a sink, from what was read of it.
 use Rattle.std.specs.Prelude.{◌≡◌, ℕ, List, ◌++◌, chars, string_bytes, fold}
-use Rattle.reference_tables.specs.References.{References}
-use Rattle.html_grammar.specs.Items.{characters, end_of_file, tag}
-use Rattle.html_grammar.specs.Lexemes.{Lexeme, nothing, told, tagged}
-use Rattle.html_grammar.specs.Meaning.{Meaning}
-use Rattle.html_grammar.specs.Modes.{mode_behind}
-use Rattle.html_grammar.specs.Reading.{Reading}
-use Rattle.html_grammar.specs.declared.modes.Mode.{Mode}
-use Rattle.lexeme_places.specs.Places.{place_lexeme}
-use Rattle.lexeme_places.specs.declared.place.Place.{Place}
+use Rattle.lex_base.specs.References.{References}
+use Rattle.token_grammar.specs.Items.{characters, end_of_file, tag}
+use Rattle.token_grammar.specs.Lexemes.{Lexeme, nothing, emitted, tagged}
+use Rattle.token_grammar.specs.Meaning.{Meaning}
+use Rattle.token_grammar.specs.Modes.{next_mode}
+use Rattle.token_grammar.specs.Reading.{Reading}
+use Rattle.token_grammar.specs.declared.modes.Mode.{Mode}
+use Rattle.token_states.specs.Places.{place_lexeme}
+use Rattle.token_states.specs.declared.place.LexemeState.{LexemeState}
 use Rattle.html_tokenizer.specs.declared.reader.Reader.{Reader}
 
 -- A lexeme in a mode, and the reading of what follows it, leave the sink in a final state.
 abbrev pub Follows : {A H : Type 0} → References → Meaning A H → Mode → Lexeme → A → A → Type 0
 Follows table means mode nothing state final = final ≡ means.step state end_of_file
-Follows table means mode (told items behind rest) state final =
-    Reading table means behind (fold means.step state items) rest final
+Follows table means mode (emitted items trailing rest) state final =
+    Reading table means trailing (fold means.step state items) rest final
 Follows table means mode (tagged t rest) state final =
-    Reading table means (mode_behind mode t (means.reply state (tag t))) (means.step state (tag t)) rest final
+    Reading table means (next_mode mode t (means.reply state (tag t))) (means.step state (tag t)) rest final
 
 -- What stands at a place does.
-abbrev pub Leaves : {A H : Type 0} → References → Meaning A H → Mode → Place → List ℕ → A → A → Type 0
+abbrev pub Leaves : {A H : Type 0} → References → Meaning A H → Mode → LexemeState → List ℕ → A → A → Type 0
 Leaves table means mode place cs state final =
     Follows table means mode (place_lexeme table (means.foreign state) mode place cs) state final
 

@@ -1,18 +1,18 @@
 ghost use Rattle.std.specs.Prelude.{MatchBool, chars, ◌≡◌, ◌≢◌, ℕ, false};
-ghost use Rattle.html_grammar.specs.Items.{characters};
-ghost use Rattle.html_grammar.specs.PlainRead.{items_of};
-ghost use Rattle.html_grammar.specs.Reading.{IsAfterError};
-ghost use Rattle.html_tokenizer.specs.Tells.{IsFirstAfterError};
-ghost use Rattle.parse_errors.specs.Found.{heeds};
+ghost use Rattle.token_grammar.specs.Items.{characters};
+ghost use Rattle.token_grammar.specs.PlainRead.{items_of};
+ghost use Rattle.token_grammar.specs.Reading.{IsAfterError};
+ghost use Rattle.html_tokenizer.specs.Emits.{IsFirstAfterError};
+ghost use Rattle.token_errors.specs.Found.{heeds};
 
-use html_grammar::TextKind;
-use html_grammar::lexemes::Lexeme;
-use html_grammar::slices::first_and_rest;
 use html_lexemes::states::State;
 use html_lexemes::{ReferenceTable, Token};
-use lexeme_places::Place;
-use parse_errors::ParseErrors;
 use std::alloc::AllocError;
+use token_errors::ParseErrors;
+use token_grammar::TextKind;
+use token_grammar::lexemes::Lexeme;
+use token_grammar::slices::first_and_rest;
+use token_states::LexemeState;
 
 /// Finds the parse errors in a lexeme that is over: in what was held at its place. `line` is that on which a reference
 /// stands. What the grammar emits as an item, a `</>` and a reference without its semicolon, is not among them. Where
@@ -21,17 +21,17 @@ pub(crate) fn find_errors(
     errors: &mut ParseErrors,
     table: &ReferenceTable,
     start: MarkupStart,
-    place: Place,
+    place: LexemeState,
     held: &str,
     may_repeat: bool,
     line: u64,
 ) -> Result<(), AllocError> {
     match place {
-        Place::CharacterReference(_) => errors.in_reference(table, held, line),
-        Place::Tag(kind, _) => errors.in_tag(table, kind, held, may_repeat, start.line),
-        Place::BogusComment => errors.in_bogus_comment(start.state, held, start.line),
-        Place::Comment => errors.in_comment(held, start.line),
-        Place::Doctype => errors.in_doctype(held, start.line),
+        LexemeState::CharacterReference(_) => errors.in_reference(table, held, line),
+        LexemeState::Tag(kind, _) => errors.in_tag(table, kind, held, may_repeat, start.line),
+        LexemeState::BogusComment => errors.in_bogus_comment(start.state, held, start.line),
+        LexemeState::Comment => errors.in_comment(held, start.line),
+        LexemeState::Doctype => errors.in_doctype(held, start.line),
         _ => Ok(()),
     }
 }
@@ -47,12 +47,12 @@ pub(crate) fn may_repeat(lexeme: &Lexeme<'_>) -> bool {
 /// Finds the error of a `<` that is text, at the character after it; `line` is that of the `<`.
 pub(crate) fn find_errors_before(
     errors: &mut ParseErrors,
-    place: Place,
+    place: LexemeState,
     c: char,
     line: u64,
 ) -> Result<(), AllocError> {
     match place {
-        Place::TagOpen => errors.at_tag_open(Some(c), line),
+        LexemeState::TagOpen => errors.at_tag_open(Some(c), line),
         _ => Ok(()),
     }
 }
@@ -62,15 +62,15 @@ pub(crate) fn find_last_errors(
     errors: &mut ParseErrors,
     table: &ReferenceTable,
     start: MarkupStart,
-    place: Place,
+    place: LexemeState,
     held: &str,
     line: u64,
 ) -> Result<(), AllocError> {
     match place {
-        Place::CharacterReference(_) => errors.in_last_reference(table, held, line),
-        Place::TagOpen => errors.at_tag_open(None, line),
-        Place::EndTagOpen => errors.at_end_tag_open(line),
-        Place::MarkupDeclarationOpen => {
+        LexemeState::CharacterReference(_) => errors.in_last_reference(table, held, line),
+        LexemeState::TagOpen => errors.at_tag_open(None, line),
+        LexemeState::EndTagOpen => errors.at_end_tag_open(line),
+        LexemeState::MarkupDeclarationOpen => {
             errors.in_bogus_comment(State::MarkupDeclarationOpen, held, line)
         }
         // what is cut off is no token that says whether its attributes repeat a name
@@ -80,11 +80,11 @@ pub(crate) fn find_last_errors(
 
 /// The state in which the page ends, at a place: one of text, or of a CDATA section. After markup, which the end of
 /// the page cuts off, it is that of ordinary text.
-pub(crate) fn last_state(text: TextKind, place: Place) -> State {
+pub(crate) fn last_state(text: TextKind, place: LexemeState) -> State {
     match place {
-        Place::Text => state_of(text),
-        Place::CdataSection => State::CdataSection,
-        Place::RawText(kind, _) => State::RawData(kind),
+        LexemeState::Text => state_of(text),
+        LexemeState::CdataSection => State::CdataSection,
+        LexemeState::RawText(kind, _) => State::RawData(kind),
         _ => State::Data,
     }
 }
@@ -100,11 +100,11 @@ pub(crate) struct MarkupStart {
 
 impl MarkupStart {
     /// What is known after a further character of markup, on a line, that was read at a place.
-    pub(crate) fn behind(self, place: Place, line: u64) -> MarkupStart {
+    pub(crate) fn trailing(self, place: LexemeState, line: u64) -> MarkupStart {
         let state = match place {
-            Place::TagOpen => State::TagOpen,
-            Place::EndTagOpen => State::EndTagOpen,
-            Place::MarkupDeclarationOpen => State::MarkupDeclarationOpen,
+            LexemeState::TagOpen => State::TagOpen,
+            LexemeState::EndTagOpen => State::EndTagOpen,
+            LexemeState::MarkupDeclarationOpen => State::MarkupDeclarationOpen,
             _ => return self,
         };
         MarkupStart { state, line }

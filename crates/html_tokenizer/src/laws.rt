@@ -3,7 +3,7 @@ ghost use Rattle.std.specs.Prelude.{◌≡◌};
 ghost use Rattle.html_tokenizer.specs.OtherSinks.{GoesOnAs, HoldsIn, with_sink};
 ghost use Rattle.html_tokenizer.specs.declared.tokenizer.Tokenizer.{Tokenizer};
 
-use html_grammar::TokenSink;
+use token_grammar::TokenSink;
 
 /// Somebody else may change a tokenizer's sink, if its state stays: the tokenizer goes on as it would have.
 pub fn a_sink_may_change_but_for_its_state<Sink: TokenSink>()

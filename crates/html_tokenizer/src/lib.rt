@@ -9,7 +9,7 @@
 //!
 //! - `read_pieces`: for every sink that keeps the laws and is ready for the kind of text in which the page begins,
 //!   and any list of pieces: where it isn't refused, the sink is left as the reading of the whole page's text
-//!   leaves it, in the mode that the options name, and was then closed once (`told`, by `IsClosed`); it is refused
+//!   leaves it, in the mode that the options name, and was then closed once (`emitted`, by `IsClosed`); it is refused
 //!   only if allocation fails (`memory`). A list of pieces and any other cutting of it leave equal sinks, since a
 //!   text has one reading (`one_reading`)
 //! - `Tokenizer::new`: it has not failed, may be called (`fit`), has the sink, the table and the last start tag
@@ -24,7 +24,7 @@
 //!   answered by asking for it, and no item before (`asks`); then the queue is shorter, nothing is held back and no
 //!   text not emitted, and the state is one of text with nothing pending (`pauses`); and what was taken before the
 //!   last character, which is the tag's `>`, leaves a tokenizer that was asked for no pause and stands where no
-//!   lexeme is over (`behind`): so the queue has just what follows the tag
+//!   lexeme is over (`trailing`): so the queue has just what follows the tag
 //! - the same, refused: it is refused only if allocation fails, unless an earlier call was refused or the end has
 //!   come (`memory`); then it answers `Failed` (`failed`) and leaves itself and the queue as they were (`kept`). It
 //!   has failed exactly where a call was refused (`works`), may be called again whatever it answered (`fit`), and
@@ -43,7 +43,7 @@
 //! after each call, for every rest of the page and every final state; they compose, as `read_pieces` shows. After
 //! them stands, for each place in a lexeme, what is held there (`IsSound`, a ghost field of `Pending`, and
 //! `IsGoing`, by which it may still become something else, a ghost field of `Tokenizer`), and for each further
-//! character a turn of lexeme_places. Why a call is refused rests on the kind of the text: a place is one in text
+//! character a turn of token_states. Why a call is refused rests on the kind of the text: a place is one in text
 //! of a kind (`IsPlaceOf`), a further character keeps it so, and what stands there is of that kind, which the sink
 //! welcomes.
 //!
@@ -55,7 +55,7 @@
 //!
 //! Parse errors are reported before the next thing that is emitted, unless that is text that begins with LF, which
 //! an error could change; each sink's law `IsLawful` says that an error changes nothing else, and the contracts of
-//! `tell_errors`, `tell_items` (telling.rt) and `read_text` (reader.rt) that so nothing else changes.
+//! `emit_errors`, `emit_items` (emitting.rt) and `read_text` (reader.rt) that so nothing else changes.
 //!
 //! What is not pinned, so that a wrong body would still be proved: a `feed`, `feed_on`, `end` or `read_pieces` that
 //! always answers `Memory`. Which parse errors are reported, their texts and lines, and the lines given with tokens
@@ -71,13 +71,14 @@
 //!
 //! Shown by the cases `tokens` of stored_rows: each row by the plain reader and by the tokenizer, whole, one
 //! character at a time, and cut in two at every place, to a sink that keeps its tokens; pages with the errors that
-//! are emitted, their lines and their place among the tokens, fed in the same ways. Tested (`token_rows`): a pause
+//! are emitted, their lines and their place among the tokens, fed in the same ways. Tested (`test_tokens`): a pause
 //! leaves what follows the tag; refusals last, also for a sink that is ready in some states alone; each line end
-//! counts once, also cut. Two wrong readings were planted alike in html_grammar and lexeme_places, and each fails a
+//! counts once, also cut. Two wrong readings were planted alike in token_grammar and token_states, and each fails a
 //! row: a FF that ends no raw end tag's name, and `-->` that leaves a double escaped part for the escaped one. The
 //! program ends with status 1 where two ways differ.
 #![tactic(auto)]
 
+mod emitting;
 mod errors;
 mod laws;
 mod line_ends;
@@ -87,12 +88,11 @@ mod pieces;
 mod reader;
 mod results;
 mod runs;
-mod telling;
 mod tokenizer;
 
-pub use html_grammar::{TokenSink, TokenizerOpts, read_plainly};
 pub use html_lexemes;
 pub use laws::a_sink_may_change_but_for_its_state;
 pub use pieces::read_pieces;
 pub use results::TokenizerResult;
+pub use token_grammar::{TokenSink, TokenizerOpts, read_plainly};
 pub use tokenizer::Tokenizer;

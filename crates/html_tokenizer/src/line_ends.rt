@@ -1,6 +1,6 @@
 ghost use Rattle.std.specs.Prelude.{◌≡◌, ℕ, ◌∷◌, List, IsTrue, MatchOption};
 ghost use Rattle.std.specs.Char.{IsScalar};
-ghost use Rattle.html_grammar.specs.PageText.{page_text};
+ghost use Rattle.token_grammar.specs.PageText.{page_text};
 ghost use Rattle.html_tokenizer.specs.declared.line_ends.LineEnds.TheVariants.{Within as WithinText};
 
 /// How the characters of a page become those of its text: a first U+FEFF may be dropped, and each CR LF, CR and LF is
@@ -16,7 +16,7 @@ pub(crate) enum LineEnds {
 }
 
 impl LineEnds {
-    ghost use Rattle.html_tokenizer.specs.PageRest.{page_rest, rest_behind};
+    ghost use Rattle.html_tokenizer.specs.PageRest.{page_rest, rest_after};
 
     /// Before the first character.
     pub(crate) fn new(discard_mark: bool) -> LineEnds
@@ -30,8 +30,8 @@ impl LineEnds {
     }
 
     /// After a character.
-    pub(crate) fn behind(c: char) -> LineEnds
-        ensures { (rest : List ℕ) → page_rest result rest ≡ rest_behind c rest }
+    pub(crate) fn trailing(c: char) -> LineEnds
+        ensures { (rest : List ℕ) → page_rest result rest ≡ rest_after c rest }
     {
         if c == '\r' {
             LineEnds::AfterReturn
@@ -51,8 +51,8 @@ impl LineEnds {
     /// What a further character of the page is in its text. `None` is nothing: a first U+FEFF, or the LF of a CR LF.
     pub(crate) fn ended(self, c: char) -> Option<char>
         requires { IsScalar c }
-        ensures { MatchOption result ((rest : List ℕ) → page_rest self (c ∷ rest) ≡ rest_behind c rest)
-            (λ d. IsScalar d × ((rest : List ℕ) → page_rest self (c ∷ rest) ≡ d ∷ rest_behind c rest)) }
+        ensures { MatchOption result ((rest : List ℕ) → page_rest self (c ∷ rest) ≡ rest_after c rest)
+            (λ d. IsScalar d × ((rest : List ℕ) → page_rest self (c ∷ rest) ≡ d ∷ rest_after c rest)) }
     {
         match (self, c) {
             (LineEnds::AtMark, '\u{feff}') | (LineEnds::AfterReturn, '\n') => None,

@@ -1,25 +1,25 @@
 //! What the end of the page makes of what a reader holds back.
 ghost use Rattle.std.specs.Prelude.{◌≡◌, [], chars, string_bytes, IfErr, OnOk};
 ghost use Rattle.html_lexemes.specs.declared.fault.ParseFault.TheVariants.{Memory};
-ghost use Rattle.html_grammar.specs.Items.{end_of_file};
-ghost use Rattle.html_grammar.specs.Kinds.{IsReadyFor};
-ghost use Rattle.html_grammar.specs.Reading.{IsClosed, Reading};
-ghost use Rattle.lexeme_places.specs.PlaceKinds.{IsPlaceOf};
+ghost use Rattle.token_grammar.specs.Items.{end_of_file};
+ghost use Rattle.token_grammar.specs.Kinds.{IsReadyFor};
+ghost use Rattle.token_grammar.specs.Reading.{IsClosed, Reading};
+ghost use Rattle.token_states.specs.PlaceKinds.{IsPlaceOf};
 
 use crate::errors::{find_last_errors, last_state};
 use crate::reader::Reader;
-use html_grammar::lexemes::Lexeme;
-use html_grammar::plain::tell_lexemes;
-use html_grammar::{Mode, TextKind, TokenSink};
 use html_lexemes::{ParseFault, ReferenceTable, Token};
-use lexeme_places::laws::place_of_a_kind;
-use lexeme_places::lexeme_from;
 use std::mem;
+use token_grammar::lexemes::Lexeme;
+use token_grammar::plain::emit_lexemes;
+use token_grammar::{Mode, TextKind, TokenSink};
+use token_states::laws::place_of_a_kind;
+use token_states::lexeme_from;
 
 impl Reader {
     ghost use Rattle.html_tokenizer.specs.Reads.{Leaves, Reads};
 
-    /// Tells what the end of the text makes of what is held back, and that it ends.
+    /// Emits what the end of the text makes of what is held back, and that it ends.
     pub(crate) fn finish<S: TokenSink>(
         &mut self,
         table: &ReferenceTable,
@@ -33,16 +33,16 @@ impl Reader {
     {
         self.line = self.next_line;
         let state = last_state(self.mode.text, self.pending.place());
-        self.tell_run(sink)?;
-        self.tell_held(table, sink)?;
+        self.emit_run(sink)?;
+        self.emit_held(table, sink)?;
         self.errors.at_end(state, self.line)?;
-        self.tell_errors(sink)?;
+        self.emit_errors(sink)?;
         sink.process_token(Token::EOFToken, self.line)?;
         sink.end()
     }
 
     // emits what stands in what is held back before the end
-    fn tell_held<S: TokenSink>(
+    fn emit_held<S: TokenSink>(
         &mut self,
         table: &ReferenceTable,
         sink: &mut S,
@@ -53,7 +53,7 @@ impl Reader {
         ensures memory { IfErr result (λ e. e ≡ Memory) }
         ensures ready { OnOk result (IsReadyFor S.ready S.welcomes self.new.mode.text (S.state sink.new)) }
         ensures run { OnOk result (string_bytes self.new.run ≡ []) }
-        ensures told { OnOk result
+        ensures emitted { OnOk result
             (Leaves table.now S.means self.old.mode self.old.pending.place (chars (string_bytes self.old.pending.held))
             (S.state sink.old) (S.means.step (S.state sink.new) end_of_file)) }
     {
@@ -65,21 +65,21 @@ impl Reader {
         find_last_errors(errors, table, self.start, place, held.as_str(), self.line)?;
         match lexeme_from(alloc, table, foreign, &self.mode, place, held.as_str())? {
             Lexeme::Nothing => Ok(()),
-            Lexeme::Told(tokens, text, rest) => {
-                self.tell_items(sink, tokens)?;
+            Lexeme::Emitted(tokens, text, rest) => {
+                self.emit_items(sink, tokens)?;
                 self.mode.text = text;
-                self.tell_rest(table, sink, rest)
+                self.emit_rest(table, sink, rest)
             }
             Lexeme::Tagged(tag, rest) => {
-                self.tell_errors(sink)?;
-                self.tell_tag(sink, tag)?;
-                self.tell_rest(table, sink, rest)
+                self.emit_errors(sink)?;
+                self.emit_tag(sink, tag)?;
+                self.emit_rest(table, sink, rest)
             }
         }
     }
 
     // emits what stands in a text before its end
-    fn tell_rest<S: TokenSink>(
+    fn emit_rest<S: TokenSink>(
         &mut self,
         table: &ReferenceTable,
         sink: &mut S,
@@ -89,7 +89,7 @@ impl Reader {
         ensures memory { IfErr result (λ e. e ≡ Memory) }
         ensures ready { OnOk result (IsReadyFor S.ready S.welcomes self.new.mode.text (S.state sink.new)) }
         ensures run { self.new.run ≡ self.old.run }
-        ensures told { OnOk result
+        ensures emitted { OnOk result
             (Reading table.now S.means self.old.mode (S.state sink.old) (chars rest.now)
             (S.means.step (S.state sink.new) end_of_file)) }
     {
@@ -101,6 +101,6 @@ impl Reader {
                 last_start_tag: None,
             },
         );
-        tell_lexemes(alloc, sink, table, mode, rest, self.line)
+        emit_lexemes(alloc, sink, table, mode, rest, self.line)
     }
 }

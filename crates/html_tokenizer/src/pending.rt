@@ -1,27 +1,28 @@
-ghost use Rattle.std.specs.Prelude.{◌≡◌, [], ◌∷◌, Bool, chars, string_bytes, length, ◌==◌, ◌≢◌};
-ghost use Rattle.std.specs.Prelude.{IfOk, IsTrue, IfSome, OnOk, Some, MatchBool, MatchOption};
-ghost use Rattle.lexeme_places.specs.declared.place.Place.TheVariants.{CdataSection as SectionPlace};
-ghost use Rattle.lexeme_places.specs.declared.place.Place.TheVariants.{MarkupDeclarationOpen as DeclarationPlace};
-ghost use Rattle.lexeme_places.specs.declared.place.Place.TheVariants.{RawText as RawPlaceOf, Text as TextPlace};
+ghost use Rattle.std.specs.Prelude.{◌≡◌, [], ◌∷◌, ◌==◌, ◌≢◌, Bool, IfOk, IfSome, IsTrue, MatchBool, MatchOption, OnOk};
+ghost use Rattle.std.specs.Prelude.{Some, chars, length, string_bytes};
+ghost use Rattle.token_states.specs.declared.place.LexemeState.TheVariants.{CdataSection as SectionPlace};
+ghost use Rattle.token_states.specs.declared.place.LexemeState.TheVariants.{MarkupDeclarationOpen as DeclarationPlace};
+ghost use Rattle.token_states.specs.declared.place.LexemeState.TheVariants.{RawText as RawPlaceOf, Text as TextPlace};
 ghost use Rattle.std.specs.Char.{IsScalar};
 ghost use Rattle.html_lexemes.specs.QueueAnswers.{PopsRun};
-ghost use Rattle.lexeme_places.specs.HeldRuns.{held_stops};
-ghost use Rattle.lexeme_places.specs.Sound.{IsSound};
-ghost use Rattle.lexeme_places.specs.SoundProp.{IsSound-prop};
+ghost use Rattle.token_states.specs.HeldRuns.{held_stops};
+ghost use Rattle.token_states.specs.Sound.{IsSound};
+ghost use Rattle.token_states.specs.SoundProp.{IsSound-prop};
 
 use html_lexemes::states::RawKind;
 use html_lexemes::{BufferQueue, LocalName, ReferenceTable, TagKind};
-use lexeme_places::laws::held_run_goes_on;
-use lexeme_places::{
-    Place, RawPlace, RawTurn, SectionTurn, TagPlace, Turn, markup_turn, raw_turn, section_turn,
-};
 use std::alloc::{AllocError, Global};
 use std::mem;
+use token_states::laws::held_run_goes_on;
+use token_states::{
+    LexemeState, RawPlace, RawTurn, SectionTurn, TagPlace, Turn, markup_turn, raw_turn,
+    section_turn,
+};
 
 /// A lexeme that is not over: where in it, and the characters that are held back.
 #[derive(Drop)]
 pub(crate) struct Pending {
-    place: Place,
+    place: LexemeState,
     // what stands after the opening that the place names
     held: String,
     ghost sound: { IsSound place (chars (string_bytes held)) } by { IsSound-prop place (chars (string_bytes held)) },
@@ -33,9 +34,9 @@ pub(crate) enum Advance {
     /// It belongs to the lexeme, which goes on.
     Goes,
     /// It belongs to the lexeme, which is over: its place, and what was held.
-    Ends(Place, String),
+    Ends(LexemeState, String),
     /// The lexeme was over before it: its place, and what was held.
-    EndsBefore(Place, String),
+    EndsBefore(LexemeState, String),
 }
 
 /// What became of a further character of the text of an element.
@@ -52,12 +53,12 @@ pub(crate) enum RawAdvance {
 }
 
 impl Pending {
-    ghost use Rattle.html_grammar.specs.declared.modes.Mode.{Mode as SeenMode};
-    ghost use Rattle.reference_tables.specs.References.{References};
+    ghost use Rattle.token_grammar.specs.declared.modes.Mode.{Mode as SeenMode};
+    ghost use Rattle.lex_base.specs.References.{References};
     ghost use Rattle.html_tokenizer.specs.Advances.{Advances, IsLeft, RawAdvances, StaysWithinKind};
-    ghost use Rattle.lexeme_places.specs.PlaceKinds.{IsNoMarkup};
-    ghost use Rattle.lexeme_places.specs.Goings.{is_raw_going};
-    ghost use Rattle.lexeme_places.specs.SectionTurns.{SectionAdvances};
+    ghost use Rattle.token_states.specs.PlaceKinds.{IsNoMarkup};
+    ghost use Rattle.token_states.specs.Goings.{is_raw_going};
+    ghost use Rattle.token_states.specs.SectionTurns.{SectionAdvances};
 
     /// Before a lexeme.
     pub(crate) fn new(alloc: Global) -> Pending
@@ -65,13 +66,13 @@ impl Pending {
         ensures held { string_bytes result.held ≡ [] }
     {
         Pending {
-            place: Place::Text,
+            place: LexemeState::Text,
             held: String::new(alloc),
         }
     }
 
     /// Where in a lexeme.
-    pub(crate) fn place(&self) -> Place
+    pub(crate) fn place(&self) -> LexemeState
         ensures { result ≡ self.now.place }
     {
         self.place
@@ -81,7 +82,7 @@ impl Pending {
     pub(crate) fn is_text(&self) -> bool
         ensures { MatchBool result (self.now.place ≡ TextPlace) (self.now.place ≢ TextPlace) }
     {
-        matches!(self.place, Place::Text)
+        matches!(self.place, LexemeState::Text)
     }
 
     /// Whether no character is held after the opening that the place names.
@@ -92,11 +93,11 @@ impl Pending {
     }
 
     /// Takes out the place and what is held; nothing is pending then.
-    pub(crate) fn take_all(&mut self) -> (Place, String)
+    pub(crate) fn take_all(&mut self) -> (LexemeState, String)
         ensures place { result.0 ≡ self.old.place }
         ensures held { result.1 ≡ self.old.held }
     {
-        let place = mem::replace(&mut self.place, Place::Text);
+        let place = mem::replace(&mut self.place, LexemeState::Text);
         (place, take_out(&mut self.held))
     }
 
@@ -111,7 +112,7 @@ impl Pending {
     }
 
     /// Goes to a place after an opening.
-    pub(crate) fn open(&mut self, place: Place)
+    pub(crate) fn open(&mut self, place: LexemeState)
         requires at { self.old.place ≡ TextPlace }
         requires sound { IsSound place [] }
         ensures place { self.new.place ≡ place }
@@ -134,7 +135,7 @@ impl Pending {
         ensures held { OnOk result (chars (string_bytes self.new.held) ≡ c ∷ []) }
     {
         self.held.push(c)?;
-        self.place = Place::RawText(kind, place);
+        self.place = LexemeState::RawText(kind, place);
         Ok(())
     }
 
@@ -158,7 +159,7 @@ impl Pending {
         let done = match markup_turn(table, foreign, self.place, &mut self.held, c) {
             Ok(done) => done,
             Err(error) => {
-                self.place = Place::Text;
+                self.place = LexemeState::Text;
                 self.held.clear();
                 return Err(error);
             }
@@ -172,11 +173,11 @@ impl Pending {
                 Ok(Some(Advance::Goes))
             }
             Turn::Ends(last) => {
-                self.place = Place::Text;
+                self.place = LexemeState::Text;
                 Ok(Some(Advance::Ends(last, take_out(&mut self.held))))
             }
             Turn::EndsBefore => {
-                let last = mem::replace(&mut self.place, Place::Text);
+                let last = mem::replace(&mut self.place, LexemeState::Text);
                 Ok(Some(Advance::EndsBefore(last, take_out(&mut self.held))))
             }
         }
@@ -217,26 +218,26 @@ impl Pending {
         let turn = match raw_turn(alloc, last, kind, place, &mut self.held, c) {
             Ok(turn) => turn,
             Err(error) => {
-                self.place = Place::Text;
+                self.place = LexemeState::Text;
                 self.held.clear();
                 return Err(error);
             }
         };
         match turn {
             RawTurn::Goes(next) => {
-                self.place = Place::RawText(kind, next);
+                self.place = LexemeState::RawText(kind, next);
                 Ok(RawAdvance::Goes)
             }
-            RawTurn::Before(behind) => {
-                self.place = Place::Text;
-                Ok(RawAdvance::Before(take_out(&mut self.held), behind))
+            RawTurn::Before(trailing) => {
+                self.place = LexemeState::Text;
+                Ok(RawAdvance::Before(take_out(&mut self.held), trailing))
             }
-            RawTurn::Shifts(text, behind, next) => {
-                self.place = Place::RawText(behind, next);
-                Ok(RawAdvance::Shifts(text, behind))
+            RawTurn::Shifts(text, trailing, next) => {
+                self.place = LexemeState::RawText(trailing, next);
+                Ok(RawAdvance::Shifts(text, trailing))
             }
             RawTurn::EndTag => {
-                self.place = Place::Tag(TagKind::EndTag, TagPlace::TagName);
+                self.place = LexemeState::Tag(TagKind::EndTag, TagPlace::TagName);
                 Ok(RawAdvance::EndTag)
             }
         }
@@ -253,13 +254,13 @@ impl Pending {
         let turn = match section_turn(&mut self.held, c) {
             Ok(turn) => turn,
             Err(error) => {
-                self.place = Place::Text;
+                self.place = LexemeState::Text;
                 self.held.clear();
                 return Err(error);
             }
         };
         if let SectionTurn::Ends = turn {
-            self.place = Place::Text;
+            self.place = LexemeState::Text;
             self.held.clear();
         }
         Ok(turn)

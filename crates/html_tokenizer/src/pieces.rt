@@ -1,18 +1,18 @@
 ghost use Rattle.std.specs.Prelude.{◌≡◌, IfErr, IfOk};
 ghost use Rattle.html_lexemes.specs.declared.fault.ParseFault.TheVariants.{Memory};
-ghost use Rattle.html_grammar.specs.FirstMode.{first_mode};
-ghost use Rattle.html_grammar.specs.Kinds.{IsReadyFor};
-ghost use Rattle.html_grammar.specs.Modes.{text_of_state};
-ghost use Rattle.html_grammar.specs.PageText.{page_text};
-ghost use Rattle.html_grammar.specs.Reading.{IsClosed, Reading};
+ghost use Rattle.token_grammar.specs.FirstMode.{first_mode};
+ghost use Rattle.token_grammar.specs.Kinds.{IsReadyFor};
+ghost use Rattle.token_grammar.specs.Modes.{text_of_state};
+ghost use Rattle.token_grammar.specs.PageText.{page_text};
+ghost use Rattle.token_grammar.specs.Reading.{IsClosed, Reading};
 ghost use Rattle.html_tokenizer.specs.Pieces.{joined};
 
 use crate::tokenizer::Tokenizer;
-use html_grammar::{TokenSink, TokenizerOpts};
 use html_lexemes::{BufferQueue, ParseFault, ReferenceTable};
 use std::alloc::Global;
+use token_grammar::{TokenSink, TokenizerOpts};
 
-/// Tells a page that comes in pieces to a sink, and gives the sink back. It is left as the reading of the whole page
+/// Emits a page that comes in pieces to a sink, and gives the sink back. It is left as the reading of the whole page
 /// leaves it, however the page is cut. Pauses are passed over. The error is allocation failure.
 pub fn read_pieces<Sink: TokenSink + Drop>(
     alloc: Global,
@@ -23,10 +23,10 @@ pub fn read_pieces<Sink: TokenSink + Drop>(
 ) -> Result<Sink, ParseFault>
     requires { IsReadyFor Sink.ready Sink.welcomes (text_of_state opts.initial_state) (Sink.state sink) }
     ensures memory { IfErr result (λ e. e ≡ Memory) }
-    ensures told { IfOk result (λ told. IsClosed Sink.close
+    ensures emitted { IfOk result (λ emitted. IsClosed Sink.close
         (Reading table Sink.means (first_mode opts) (Sink.state sink)
         (page_text opts.discard_bom (joined pieces.items)))
-        (Sink.state told)) }
+        (Sink.state emitted)) }
 {
     let mut tokenizer = Tokenizer::new(alloc, sink, opts, table);
     'pieces: for piece in pieces {

@@ -1,34 +1,34 @@
-ghost use Rattle.std.specs.Prelude.{◌≡◌, ◌≢◌, ◌==◌, ◌&&◌, if◌then◌else◌, ℕ, Bool, false, true, chars, string_bytes};
-ghost use Rattle.std.specs.Prelude.{List, [], ◌∷◌, ◌++◌, fold, map, length};
-ghost use Rattle.std.specs.Prelude.{IfErr, IfOk, IfSome, IsTrue, OnOk, Ok, None, Some};
+ghost use Rattle.std.specs.Prelude.{◌≡◌, ◌≢◌, ◌==◌, ◌&&◌, if◌then◌else◌, [], ◌∷◌, ◌++◌, Bool, IfErr, IfOk, IfSome};
+ghost use Rattle.std.specs.Prelude.{IsTrue, List, None, Ok, OnOk, Some, chars, false, fold, length, map, string_bytes};
+ghost use Rattle.std.specs.Prelude.{true, ℕ};
 ghost use Rattle.std.specs.Char.{IsScalar};
 ghost use Rattle.html_lexemes.specs.QueueAnswers.{PopsRun};
-ghost use Rattle.reference_tables.specs.References.{References};
+ghost use Rattle.lex_base.specs.References.{References};
 ghost use Rattle.html_lexemes.specs.declared.fault.ParseFault.TheVariants.{Memory};
-ghost use Rattle.html_grammar.specs.Items.{characters};
-ghost use Rattle.html_grammar.specs.Kinds.{HasMarkup, IsReadyFor};
-ghost use Rattle.html_grammar.specs.Lexemes.{ordinary_item};
-ghost use Rattle.html_grammar.specs.Tags.{greater};
-ghost use Rattle.lexeme_places.specs.HeldRuns.{held_stops};
-ghost use Rattle.html_grammar.specs.declared.modes.TextKind.TheVariants.{Plain as PlainText};
-ghost use Rattle.lexeme_places.specs.PlaceKinds.{IsPlaceOf, IsWithinMarkup, is_of_text, is_open};
+ghost use Rattle.token_grammar.specs.Items.{characters};
+ghost use Rattle.token_grammar.specs.Kinds.{HasMarkup, IsReadyFor};
+ghost use Rattle.token_grammar.specs.Lexemes.{ordinary_item};
+ghost use Rattle.token_grammar.specs.Tags.{greater};
+ghost use Rattle.token_states.specs.HeldRuns.{held_stops};
+ghost use Rattle.token_grammar.specs.declared.modes.TextKind.TheVariants.{Plain as PlainText};
+ghost use Rattle.token_states.specs.PlaceKinds.{IsPlaceOf, IsWithinMarkup, is_of_text, is_open};
 ghost use Rattle.html_tokenizer.specs.Stops.{stops};
-ghost use Rattle.lexeme_places.specs.declared.place.Place.{Place as SeenPlace};
-ghost use Rattle.lexeme_places.specs.declared.place.Place.TheVariants.{CdataSection as SectionPlace};
-ghost use Rattle.lexeme_places.specs.declared.place.Place.TheVariants.{MarkupDeclarationOpen as DeclarationPlace};
-ghost use Rattle.lexeme_places.specs.declared.place.Place.TheVariants.{Text as TextPlace};
-ghost use Rattle.parse_errors.specs.Found.{found_of, heeds};
+ghost use Rattle.token_states.specs.declared.place.LexemeState.{LexemeState as SeenPlace};
+ghost use Rattle.token_states.specs.declared.place.LexemeState.TheVariants.{CdataSection as SectionPlace};
+ghost use Rattle.token_states.specs.declared.place.LexemeState.TheVariants.{MarkupDeclarationOpen as DeclarationPlace};
+ghost use Rattle.token_states.specs.declared.place.LexemeState.TheVariants.{Text as TextPlace};
+ghost use Rattle.token_errors.specs.Found.{found_of, heeds};
 
 use crate::errors::{MarkupStart, find_errors_before, looks_at_text, state_of};
 use crate::pending::{Advance, Pending, RawAdvance};
 use crate::runs::stops_of;
-use html_grammar::{Mode, TextKind, TokenSink};
 use html_lexemes::states::State;
 use html_lexemes::{BufferQueue, ParseFault, ReferenceTable, Text};
-use lexeme_places::laws::tag_ends_with_its_mark;
-use lexeme_places::{First, Place, SectionTurn, first_of};
-use parse_errors::ParseErrors;
 use std::alloc::Global;
+use token_errors::ParseErrors;
+use token_grammar::{Mode, TextKind, TokenSink};
+use token_states::laws::tag_ends_with_its_mark;
+use token_states::{First, LexemeState, SectionTurn, first_of};
 
 /// How far a text was read: the mode, the text that was read and is not emitted yet, and the lexeme that is not over.
 #[derive(Drop)]
@@ -57,7 +57,7 @@ pub(crate) enum Pause<H> {
 impl Reader {
     ghost use Rattle.html_tokenizer.specs.Holdings.{Holds, HoldsNothing, HoldsRaw};
     ghost use Rattle.html_tokenizer.specs.Reads.{Leaves, Reads, state_of};
-    ghost use Rattle.html_tokenizer.specs.Tells.{Asks, TellsOn};
+    ghost use Rattle.html_tokenizer.specs.Emits.{Asks, EmitsOn};
     ghost use Rattle.html_tokenizer.specs.Advances.{Advances, IsLeft, IsWithinKind};
 
     /// Before the first character of a text that is read in a mode.
@@ -98,16 +98,19 @@ impl Reader {
     {
         matches!(
             self.pending.place(),
-            Place::Text | Place::CharacterReference(_)
+            LexemeState::Text | LexemeState::CharacterReference(_)
         )
     }
 
-    /// Whether no character is held back, and no text is untold.
+    /// Whether no character is held back, and no text waits to be emitted.
     pub(crate) fn has_nothing_pending(&self) -> bool
         ensures { result ≡ (is_open self.now.pending.place && length (string_bytes self.now.pending.held) == 0
             && length (string_bytes self.now.run) == 0) }
     {
-        let is_open = matches!(self.pending.place(), Place::Text | Place::CdataSection);
+        let is_open = matches!(
+            self.pending.place(),
+            LexemeState::Text | LexemeState::CdataSection
+        );
         is_open && self.pending.is_empty() && self.run.is_empty()
     }
 
@@ -218,7 +221,7 @@ impl Reader {
             Reads table.now S.means self.new (S.state sink.new) rest final →
             Reads table.now S.means self.old (S.state sink.old) (c ∷ rest) final) }
     {
-        self.start = self.start.behind(self.pending.place(), self.line);
+        self.start = self.start.trailing(self.pending.place(), self.line);
         let foreign = self.is_foreign(sink)?;
         match self.pending.take(table, foreign, c)? {
             Some(advance) => self.advance(table, sink, advance, c),
@@ -241,27 +244,27 @@ impl Reader {
         ensures placed { OnOk result (IsPlaceOf self.new.mode.text self.new.pending.place) }
         ensures ready { OnOk result (IsReadyFor S.ready S.welcomes self.new.mode.text (S.state sink.new)) }
         ensures holds { (table : References) → result ≡ Ok true → Holds table self.new }
-        ensures tells { OnOk result (TellsOn S.means (S.state sink.old) (S.state sink.new)) }
+        ensures emits { OnOk result (EmitsOn S.means (S.state sink.old) (S.state sink.new)) }
         ensures place { result ≡ Ok false → IsWithinMarkup self.new.pending.place }
         ensures reads { IfOk result (λ taken. (table : References) (rest : List ℕ) (final : S.Abstract) →
             Reads table S.means self.new (S.state sink.new) (if taken then rest else c ∷ rest) final →
             Reads table S.means self.old (S.state sink.old) (c ∷ rest) final) }
     {
-        let Place::RawText(kind, place) = self.pending.place() else {
+        let LexemeState::RawText(kind, place) = self.pending.place() else {
             return Ok(false);
         };
         let last = &self.mode.last_start_tag;
         match self.pending.take_raw(last, kind, place, c)? {
             RawAdvance::Goes => Ok(true),
-            RawAdvance::Before(text, behind) => {
+            RawAdvance::Before(text, trailing) => {
                 self.run.push_str(text.as_str())?;
-                self.mode.text = TextKind::Raw(behind);
+                self.mode.text = TextKind::Raw(trailing);
                 self.begin(sink, c)?;
                 Ok(true)
             }
-            RawAdvance::Shifts(text, behind) => {
+            RawAdvance::Shifts(text, trailing) => {
                 self.run.push_str(text)?;
-                self.mode.text = TextKind::Raw(behind);
+                self.mode.text = TextKind::Raw(trailing);
                 Ok(true)
             }
             RawAdvance::EndTag => {
@@ -281,7 +284,7 @@ impl Reader {
         ensures placed { OnOk result (IsPlaceOf self.new.mode.text self.new.pending.place) }
         ensures ready { OnOk result (IsReadyFor S.ready S.welcomes self.new.mode.text (S.state sink.new)) }
         ensures holds { OnOk result ((table : References) → Holds table self.new) }
-        ensures tells { OnOk result (TellsOn S.means (S.state sink.old) (S.state sink.new)) }
+        ensures emits { OnOk result (EmitsOn S.means (S.state sink.old) (S.state sink.new)) }
         ensures reads { OnOk result ((table : References) (rest : List ℕ) (final : S.Abstract) →
             Reads table S.means self.new (S.state sink.new) rest final →
             Reads table S.means self.old (S.state sink.old) (c ∷ rest) final) }
@@ -304,8 +307,8 @@ impl Reader {
         requires kind { HasMarkup self.old.mode.text }
         ensures memory { IfErr result (λ e. e ≡ Memory) }
         ensures ready { OnOk result (IsReadyFor S.ready S.welcomes self.new.mode.text (S.state sink.new)) }
-        ensures tells { OnOk result (TellsOn S.means (S.state sink.old) (S.state sink.new)) }
-        ensures told { OnOk result
+        ensures emits { OnOk result (EmitsOn S.means (S.state sink.old) (S.state sink.new)) }
+        ensures emitted { OnOk result
             (state_of S.means self.new (S.state sink.new) ≡ fold S.means.step
             (state_of S.means self.old (S.state sink.old))
             (map ordinary_item (chars (string_bytes self.old.pending.held) ++ c ∷ []))) }
@@ -317,7 +320,7 @@ impl Reader {
         let held = self.pending.take_held();
         self.run.push_str(held.as_str())?;
         if c == '\0' {
-            return self.tell_null(sink);
+            return self.emit_null(sink);
         }
         self.read_text(sink, c)
     }
@@ -379,16 +382,16 @@ impl Reader {
         ensures ready { OnOk result (IsReadyFor S.ready S.welcomes self.new.mode.text (S.state sink.new)) }
         ensures state { OnOk result
             (state_of S.means self.new (S.state sink.new) ≡ state_of S.means self.old (S.state sink.old)) }
-        ensures tells { OnOk result (TellsOn S.means (S.state sink.old) (S.state sink.new)) }
+        ensures emits { OnOk result (EmitsOn S.means (S.state sink.old) (S.state sink.new)) }
         ensures foreign { IfOk result (λ f. self.old.pending.place ≡ DeclarationPlace →
             S.means.foreign (state_of S.means self.old (S.state sink.old)) ≡ f) }
         ensures mode { self.new.mode ≡ self.old.mode }
         ensures pending { self.new.pending ≡ self.old.pending }
     {
-        let Place::MarkupDeclarationOpen = self.pending.place() else {
+        let LexemeState::MarkupDeclarationOpen = self.pending.place() else {
             return Ok(false);
         };
-        self.tell_run(sink)?;
+        self.emit_run(sink)?;
         Ok(sink.adjusted_current_node_present_but_not_in_html_namespace())
     }
 
@@ -402,7 +405,7 @@ impl Reader {
         ensures placed { OnOk result (IsPlaceOf self.new.mode.text self.new.pending.place) }
         ensures ready { OnOk result (IsReadyFor S.ready S.welcomes self.new.mode.text (S.state sink.new)) }
         ensures holds { OnOk result ((table : References) → Holds table self.new) }
-        ensures tells { OnOk result (TellsOn S.means (S.state sink.old) (S.state sink.new)) }
+        ensures emits { OnOk result (EmitsOn S.means (S.state sink.old) (S.state sink.new)) }
         ensures reads { OnOk result ((table : References) (rest : List ℕ) (final : S.Abstract) →
             Reads table S.means self.new (S.state sink.new) rest final →
             Reads table S.means self.old (S.state sink.old) (c ∷ rest) final) }
@@ -410,7 +413,7 @@ impl Reader {
         self.errors.at_text(state_of(self.mode.text), c, self.line)?;
         match first_of(&self.mode.last_start_tag, self.mode.text, c) {
             First::Text(shown) => self.read_text(sink, shown)?,
-            First::Null => self.tell_null(sink)?,
+            First::Null => self.emit_null(sink)?,
             First::Opens(place) => self.pending.open(place),
             First::OpensRaw(kind, place) => self.pending.open_raw(kind, place, c)?,
         }
@@ -424,8 +427,8 @@ impl Reader {
         requires scalar { IsScalar c }
         ensures memory { IfErr result (λ e. e ≡ Memory) }
         ensures ready { OnOk result (IsReadyFor S.ready S.welcomes self.new.mode.text (S.state sink.new)) }
-        ensures tells { OnOk result (TellsOn S.means (S.state sink.old) (S.state sink.new)) }
-        ensures told { OnOk result
+        ensures emits { OnOk result (EmitsOn S.means (S.state sink.old) (S.state sink.new)) }
+        ensures emitted { OnOk result
             (state_of S.means self.new (S.state sink.new) ≡ S.means.step (state_of S.means self.old (S.state sink.old))
             (characters (c ∷ []))) }
         ensures mode { self.new.mode ≡ self.old.mode }
@@ -435,7 +438,7 @@ impl Reader {
             self.run.push(c)?;
             return Ok(());
         }
-        self.tell_errors(sink)?;
+        self.emit_errors(sink)?;
         self.run.push(c)?;
         Ok(())
     }

@@ -1,8 +1,8 @@
 ghost use Rattle.std.specs.Prelude.{◌≡◌};
 ghost use Rattle.html_tokenizer.specs.Stops.{stops};
 
-use html_grammar::TextKind;
 use html_lexemes::states::RawKind;
+use token_grammar::TextKind;
 
 /// The characters at which a run of text of a kind stops: any other is text by itself, and ends no line.
 pub(crate) fn stops_of(text: TextKind) -> &'static [char]

@@ -1,30 +1,30 @@
-ghost use Rattle.std.specs.Prelude.{◌≡◌, ◌++◌, ◌∷◌, ℕ, List, [], true, false, length, ◌<◌, Ok, Err, is_err};
-ghost use Rattle.std.specs.Prelude.{IfErr, IfOk, IfSome, OnOk, Some};
+ghost use Rattle.std.specs.Prelude.{◌≡◌, ◌++◌, ◌∷◌, [], ◌<◌, Err, IfErr, IfOk, IfSome, List, Ok, OnOk, Some, false};
+ghost use Rattle.std.specs.Prelude.{is_err, length, true, ℕ};
 ghost use Rattle.std.specs.Char.{IsScalar};
 ghost use Rattle.html_lexemes.specs.declared.fault.ParseFault.TheVariants.{Failed, Memory};
-ghost use Rattle.html_grammar.specs.FirstMode.{first_mode};
-ghost use Rattle.html_grammar.specs.Kinds.{IsReadyFor};
-ghost use Rattle.html_grammar.specs.Modes.{text_of_state};
-ghost use Rattle.html_grammar.specs.PageText.{page_text};
-ghost use Rattle.html_grammar.specs.Reading.{IsClosed, Reading};
-ghost use Rattle.html_grammar.specs.Tags.{greater};
+ghost use Rattle.token_grammar.specs.FirstMode.{first_mode};
+ghost use Rattle.token_grammar.specs.Kinds.{IsReadyFor};
+ghost use Rattle.token_grammar.specs.Modes.{text_of_state};
+ghost use Rattle.token_grammar.specs.PageText.{page_text};
+ghost use Rattle.token_grammar.specs.Reading.{IsClosed, Reading};
+ghost use Rattle.token_grammar.specs.Tags.{greater};
 ghost use Rattle.html_tokenizer.specs.Fits.{IsFitReader};
 ghost use Rattle.html_tokenizer.specs.GoingProp.{HoldsUnless-prop};
 ghost use Rattle.html_tokenizer.specs.Holdings.{Holds, HoldsUnless};
-ghost use Rattle.html_tokenizer.specs.Tells.{Asks};
+ghost use Rattle.html_tokenizer.specs.Emits.{Asks};
 ghost use Rattle.html_tokenizer.specs.declared.line_ends.LineEnds.TheVariants.{Within as WithinText};
-ghost use Rattle.lexeme_places.specs.HeldRuns.{held_stops};
-ghost use Rattle.lexeme_places.specs.declared.place.Place.TheVariants.{Text as TextPlace};
+ghost use Rattle.token_states.specs.HeldRuns.{held_stops};
+ghost use Rattle.token_states.specs.declared.place.LexemeState.TheVariants.{Text as TextPlace};
 
 use crate::line_ends::LineEnds;
 use crate::reader::{Pause, Reader};
 use crate::results::{TokenizerResult, result_of};
-use html_grammar::plain::text_of_state;
-use html_grammar::{Mode, TokenSink, TokenizerOpts};
 use html_lexemes::{BufferQueue, ParseFault, ReferenceTable};
-use lexeme_places::held_stops;
-use lexeme_places::laws::{going_is_no_lexeme, held_run_goes_on};
 use std::alloc::Global;
+use token_grammar::plain::text_of_state;
+use token_grammar::{Mode, TokenSink, TokenizerOpts};
+use token_states::held_stops;
+use token_states::laws::{going_is_no_lexeme, held_run_goes_on};
 
 /// Reads the text of a page, in any pieces, and emits its tokens to a sink (WHATWG HTML, 13.2.5). What it emits is what
 /// the reading of the whole text by the grammar emits, however the text is cut. Parse errors are emitted before what
@@ -42,8 +42,8 @@ pub struct Tokenizer<Sink> {
 }
 
 impl<Sink: TokenSink> Tokenizer<Sink> {
-    ghost use Rattle.html_tokenizer.specs.Completes.{Answers, Completes, HasTold, IsEmptied, IsFit, IsUndecided};
-    ghost use Rattle.html_tokenizer.specs.Completes.{PausesBehind, TakesSome, has_failed, is_text_state};
+    ghost use Rattle.html_tokenizer.specs.Completes.{Answers, Completes, HasEmitted, IsEmptied, IsFit, IsUndecided};
+    ghost use Rattle.html_tokenizer.specs.Completes.{PausesAfter, TakesSome, has_failed, is_text_state};
     ghost use Rattle.html_tokenizer.specs.Completes.{last_start_tag_of, nothing_pending, plain_mode, table_of};
     ghost use Rattle.html_tokenizer.specs.Completes.{text_left};
     ghost use Rattle.html_tokenizer.specs.Inside as inside;
@@ -51,7 +51,7 @@ impl<Sink: TokenSink> Tokenizer<Sink> {
 
     /// Before the first character of a page. The sink is in the state in which the page is to be emitted to it, and
     /// ready for the kind of text in which the page begins.
-    #[tactic(auto, unfolding(crate::specs::Completes::has_failed, crate::specs::Completes::IsFit, crate::specs::Completes::Completes, crate::specs::Completes::HasTold, crate::specs::Completes::IsEmptied, crate::specs::Completes::IsUndecided, crate::specs::Completes::table_of, crate::specs::Completes::last_start_tag_of, crate::specs::Completes::text_left))]
+    #[tactic(auto, unfolding(crate::specs::Completes::has_failed, crate::specs::Completes::IsFit, crate::specs::Completes::Completes, crate::specs::Completes::HasEmitted, crate::specs::Completes::IsEmptied, crate::specs::Completes::IsUndecided, crate::specs::Completes::table_of, crate::specs::Completes::last_start_tag_of, crate::specs::Completes::text_left))]
     pub fn new(
         alloc: Global,
         sink: Sink,
@@ -92,7 +92,7 @@ impl<Sink: TokenSink> Tokenizer<Sink> {
     /// `Done` all text that was read is emitted, and what is held back is the beginning of a lexeme that what follows
     /// decides. The error is allocation failure; after it, and after the end, every call is refused as `Failed` and
     /// takes nothing from the queue.
-    #[tactic(auto, unfolding(crate::specs::Completes::has_failed, crate::specs::Completes::IsFit, crate::specs::Completes::Completes, crate::specs::Completes::HasTold, crate::specs::Completes::IsEmptied, crate::specs::Completes::IsUndecided, crate::specs::Completes::table_of, crate::specs::Completes::is_text_state, crate::specs::Completes::nothing_pending))]
+    #[tactic(auto, unfolding(crate::specs::Completes::has_failed, crate::specs::Completes::IsFit, crate::specs::Completes::Completes, crate::specs::Completes::HasEmitted, crate::specs::Completes::IsEmptied, crate::specs::Completes::IsUndecided, crate::specs::Completes::table_of, crate::specs::Completes::is_text_state, crate::specs::Completes::nothing_pending))]
     pub fn feed(
         &mut self,
         queue: &mut BufferQueue,
@@ -107,11 +107,11 @@ impl<Sink: TokenSink> Tokenizer<Sink> {
         ensures table { table_of self.new ≡ table_of self.old }
         ensures takes { OnOk result (TakesSome queue.old queue.new) }
         ensures done { result ≡ Ok TokenizerResult.Done →
-            (queue.new.text ≡ []) × (HasTold self.new × IsUndecided self.new) }
+            (queue.new.text ≡ []) × (HasEmitted self.new × IsUndecided self.new) }
         ensures pauses { IfOk result (λ r. (r ≡ TokenizerResult.Done → ⊥) →
             (length queue.new.text < length queue.old.text) × (IsEmptied self.new
             × ((is_text_state self.new ≡ true) × (nothing_pending self.new ≡ true)))) }
-        ensures behind { IfOk result (λ r. (r ≡ TokenizerResult.Done → ⊥) → PausesBehind Sink.state Sink.means greater
+        ensures trailing { IfOk result (λ r. (r ≡ TokenizerResult.Done → ⊥) → PausesAfter Sink.state Sink.means greater
             (Sink.state self.old.sink) (Completes Sink.state Sink.means self.old) queue.old queue.new) }
         ensures asks { IfOk result (λ r. Answers Sink.means r (Sink.state self.old.sink) (Sink.state self.new.sink)) }
         ensures reads { OnOk result ((rest : List ℕ) (final : Sink.Abstract) →
@@ -139,7 +139,7 @@ impl<Sink: TokenSink> Tokenizer<Sink> {
         ensures works { has_failed self.new ≡ is_err result }
         ensures table { table_of self.new ≡ table_of self.old }
         ensures takes { OnOk result (TakesSome queue.old queue.new) }
-        ensures done { OnOk result ((queue.new.text ≡ []) × (HasTold self.new × IsUndecided self.new)) }
+        ensures done { OnOk result ((queue.new.text ≡ []) × (HasEmitted self.new × IsUndecided self.new)) }
         ensures reads { OnOk result ((rest : List ℕ) (final : Sink.Abstract) →
             Completes Sink.state Sink.means self.new rest final →
             Completes Sink.state Sink.means self.old (queue.old.text ++ rest) final) }
@@ -163,31 +163,31 @@ impl<Sink: TokenSink> Tokenizer<Sink> {
         ensures holds { OnOk result (Holds self.new.table self.new.reader) }
         ensures takes { OnOk result (TakesSome queue.old queue.new) }
         ensures done { result ≡ Ok TokenizerResult.Done →
-            (queue.new.text ≡ []) × (inside.HasTold self.new × inside.IsUndecided self.new) }
+            (queue.new.text ≡ []) × (inside.HasEmitted self.new × inside.IsUndecided self.new) }
         ensures pauses { IfOk result (λ r. (r ≡ TokenizerResult.Done → ⊥) →
             (length queue.new.text < length queue.old.text) × (inside.IsEmptied self.new
             × ((inside.is_text_state self.new ≡ true) × (inside.nothing_pending self.new ≡ true)))) }
-        ensures behind { IfOk result (λ r. (r ≡ TokenizerResult.Done → ⊥) → PausesBehind Sink.state Sink.means greater
+        ensures trailing { IfOk result (λ r. (r ≡ TokenizerResult.Done → ⊥) → PausesAfter Sink.state Sink.means greater
             (Sink.state self.old.sink) (inside.Completes Sink.state Sink.means self.old) queue.old queue.new) }
         ensures asks { IfOk result (λ r. Answers Sink.means r (Sink.state self.old.sink) (Sink.state self.new.sink)) }
         ensures reads { OnOk result ((rest : List ℕ) (final : Sink.Abstract) →
             inside.Completes Sink.state Sink.means self.new (queue.new.text ++ rest) final →
             inside.Completes Sink.state Sink.means self.old (queue.old.text ++ rest) final) }
     {
-        'characters: while let Some(c) = self.next_behind_run(queue)? {
+        'characters: while let Some(c) = self.next_after_run(queue)? {
             if let Some(pause) = self.take(c)? {
                 going_is_no_lexeme(&self.table);
                 return Ok(result_of(pause));
             }
         }
-        self.reader.tell_run(&mut self.sink)?;
+        self.reader.emit_run(&mut self.sink)?;
         going_is_no_lexeme(&self.table);
         Ok(TokenizerResult::Done)
     }
 
     // Reads the run that stands in front, of text or of what is held of a lexeme, where one does, and takes the
     // character after it, which is to be read by itself.
-    fn next_behind_run(&mut self, queue: &mut BufferQueue) -> Result<Option<char>, ParseFault>
+    fn next_after_run(&mut self, queue: &mut BufferQueue) -> Result<Option<char>, ParseFault>
         requires fit { IsFitReader Sink.ready Sink.welcomes self.old.reader (Sink.state self.old.sink) }
         requires over { self.old.is_over ≡ true }
         requires holds { Holds self.old.table self.old.reader }
@@ -279,7 +279,7 @@ impl<Sink: TokenSink> Tokenizer<Sink> {
             inside.Completes Sink.state Sink.means self.old (c ∷ rest) final) }
     {
         let ended = self.line_ends.ended(c);
-        self.line_ends = LineEnds::behind(c);
+        self.line_ends = LineEnds::trailing(c);
         match ended {
             Some(c) => {
                 self.reader.count_line(c);
@@ -308,7 +308,7 @@ impl<Sink: TokenSink> Tokenizer<Sink> {
 
     /// Goes on with all that follows as text (WHATWG HTML, 13.2.5.5). It is asked for in a state of text, with nothing
     /// pending.
-    #[tactic(auto, unfolding(crate::specs::Completes::has_failed, crate::specs::Completes::IsFit, crate::specs::Completes::Completes, crate::specs::Completes::HasTold, crate::specs::Completes::IsEmptied, crate::specs::Completes::IsUndecided, crate::specs::Completes::table_of, crate::specs::Completes::is_text_state, crate::specs::Completes::nothing_pending))]
+    #[tactic(auto, unfolding(crate::specs::Completes::has_failed, crate::specs::Completes::IsFit, crate::specs::Completes::Completes, crate::specs::Completes::HasEmitted, crate::specs::Completes::IsEmptied, crate::specs::Completes::IsUndecided, crate::specs::Completes::table_of, crate::specs::Completes::is_text_state, crate::specs::Completes::nothing_pending))]
     pub fn set_plaintext_state(&mut self)
         requires text { is_text_state self.old ≡ true }
         requires nothing { nothing_pending self.old ≡ true }
@@ -326,7 +326,7 @@ impl<Sink: TokenSink> Tokenizer<Sink> {
 
     /// Tells what the end of the page makes of what is held back, one `EOFToken`, and that nothing more is emitted. The
     /// error is allocation failure. After it every call is refused as `Failed`.
-    #[tactic(auto, unfolding(crate::specs::Completes::has_failed, crate::specs::Completes::IsFit, crate::specs::Completes::Completes, crate::specs::Completes::HasTold, crate::specs::Completes::IsEmptied, crate::specs::Completes::IsUndecided, crate::specs::Completes::table_of))]
+    #[tactic(auto, unfolding(crate::specs::Completes::has_failed, crate::specs::Completes::IsFit, crate::specs::Completes::Completes, crate::specs::Completes::HasEmitted, crate::specs::Completes::IsEmptied, crate::specs::Completes::IsUndecided, crate::specs::Completes::table_of))]
     pub fn end(&mut self) -> Result<(), ParseFault>
         requires { IsFit Sink.state Sink.ready Sink.welcomes self.old }
         ensures fit { IsFit Sink.state Sink.ready Sink.welcomes self.new }

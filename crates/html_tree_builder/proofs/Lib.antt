@@ -1,1 +1,4 @@
+pub mod BegunLemmas
+pub mod FitLemmas
+pub mod FragmentLemmas
 pub mod ReadLemmas

@@ -1,9 +1,9 @@
 -- What a parser was fed with, and a rest of the page: by what its tokenizer does.
 use Rattle.std.proofs.Common.{◌≡◌, ◌++◌, ℕ, List, [], subst, append_assoc}
-use Rattle.html_forest.specs.Sinks.{SinkView}
+use Rattle.tree_forest.specs.Sinks.{SinkView}
 use Rattle.html_tree_state.specs.Building.{Parts}
-use Rattle.tree_builder.specs.Parsed.{parsed}
-use Rattle.tree_builder.specs.Kept.{Kept}
+use Rattle.rules_actions.specs.Parsed.{parsed}
+use Rattle.rules_actions.specs.declared.kept.Kept.{Kept}
 
 -- A piece goes after what stood in the buffer, of which nothing is left.
 pub read_on : {A : Type 0} (new old : List ℕ → A → Type 0) (queue before piece left : List ℕ) → left ≡ [] →

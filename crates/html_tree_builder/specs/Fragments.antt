@@ -1,23 +1,23 @@
 -- The tree of a fragment (WHATWG HTML, 13.4): what the rule table makes, from a context in a sink of trees on, of what
 -- the fragment's text emits.
 use Rattle.std.specs.Prelude.{ℕ, Bool, List, Option, Some, codes}
-use Rattle.html_forest.specs.Changes.{made_element}
-use Rattle.html_forest.specs.Forest.{Forest, name_of}
-use Rattle.html_forest.specs.declared.sink.QuirksMode.{QuirksMode}
-use Rattle.html_grammar.specs.Modes.{text_of_state}
-use Rattle.html_grammar.specs.PageText.{page_text}
-use Rattle.html_grammar.specs.Reading.{Reading}
-use Rattle.html_grammar.specs.declared.modes.Mode.{Mode}
-use Rattle.html_grammar.specs.declared.sink.TokenizerOpts.{TokenizerOpts}
+use Rattle.tree_forest.specs.Changes.{made_element}
+use Rattle.tree_forest.specs.Forest.{Forest, name_of}
+use Rattle.tree_forest.specs.declared.sink.QuirksMode.{QuirksMode}
+use Rattle.token_grammar.specs.Modes.{text_of_state}
+use Rattle.token_grammar.specs.PageText.{page_text}
+use Rattle.token_grammar.specs.Reading.{Reading}
+use Rattle.token_grammar.specs.declared.modes.Mode.{Mode}
+use Rattle.token_grammar.specs.declared.sink.TokenizerOpts.{TokenizerOpts}
 use Rattle.html_lexemes.specs.declared.names.Attribute.{Attribute}
 use Rattle.html_lexemes.specs.declared.names.QualName.{QualName}
 use Rattle.html_lexemes.specs.declared.states.State.{State as TextState}
 use Rattle.html_tree_builder.specs.Grown.{Beginning, IsGrown}
-use Rattle.name_sets.specs.Sets.{is_html}
-use Rattle.tree_builder.specs.Begun.{begun_fragment, context_state}
-use Rattle.tree_rules.specs.Settling.{meaning}
-use Rattle.tree_rules.specs.State.{State}
-use Rattle.tree_words.specs.Attributes.{is_html_annotation}
+use Rattle.tree_names.specs.Sets.{is_html}
+use Rattle.html_tree_builder.specs.Begun.{begun_fragment, context_state}
+use Rattle.rules_table.specs.Settling.{meaning}
+use Rattle.rules_table.specs.State.{State}
+use Rattle.tree_predicates.specs.Attributes.{is_html_annotation}
 
 -- its context, an element; the form that this stands in; and whether scripts would run there
 pub record Fragment : Type 0 where

@@ -1,15 +1,15 @@
 -- What a page has grown into: the tree, and the quirks mode, of a state in which its reading ends.
 use Rattle.std.specs.Prelude.{◌≡◌, ℕ, List}
-use Rattle.html_forest.specs.Forest.{Forest}
-use Rattle.html_forest.specs.declared.sink.QuirksMode.{QuirksMode}
-use Rattle.html_grammar.specs.FirstMode.{first_mode}
-use Rattle.html_grammar.specs.PageText.{page_text}
-use Rattle.html_grammar.specs.Reading.{Reading}
-use Rattle.reference_tables.specs.References.{References}
+use Rattle.tree_forest.specs.Forest.{Forest}
+use Rattle.tree_forest.specs.declared.sink.QuirksMode.{QuirksMode}
+use Rattle.token_grammar.specs.FirstMode.{first_mode}
+use Rattle.token_grammar.specs.PageText.{page_text}
+use Rattle.token_grammar.specs.Reading.{Reading}
+use Rattle.lex_base.specs.References.{References}
 use Rattle.html_tree_builder.specs.declared.options.ParseOpts.{ParseOpts}
-use Rattle.tree_builder.specs.Begun.{begun}
-use Rattle.tree_rules.specs.Settling.{meaning}
-use Rattle.tree_rules.specs.State.{State}
+use Rattle.html_tree_builder.specs.Begun.{begun}
+use Rattle.rules_table.specs.Settling.{meaning}
+use Rattle.rules_table.specs.State.{State}
 
 pub record IsGrown (ends : State → Type 0) (forest : Forest) (quirks : QuirksMode) : Type 0 where
   pub final : State

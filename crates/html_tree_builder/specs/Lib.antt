@@ -1,5 +1,5 @@
+pub mod Begun
 pub mod Defaults
 pub mod Fragments
 pub mod Grown
 pub mod Parsers
-pub use Rattle.tree_builder.specs.Begun

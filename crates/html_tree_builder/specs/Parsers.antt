@@ -1,13 +1,13 @@
 -- What public contracts say of a parser. These words are whole for those who call it.
 use Rattle.std.specs.Prelude.{◌≡◌, ℕ, Bool, false, List, ◌++◌}
-use Rattle.html_forest.specs.Sinks.{SinkView}
+use Rattle.tree_forest.specs.Sinks.{SinkView}
 use Rattle.html_tokenizer.specs.Completes as tokenizers
 use Rattle.html_tree_builder.specs.declared.parser.Parser.{Parser}
-use Rattle.tree_builder.specs.Parsed.{parsed}
-use Rattle.tree_builder.specs.declared.builder.TreeBuilder.{TreeBuilder}
-use Rattle.tree_rules.specs.Settling.{meaning}
-use Rattle.tree_rules.specs.State.{State}
-use Rattle.tree_rules.specs.Welcome.{IsReady, IsWelcome}
+use Rattle.rules_actions.specs.Parsed.{parsed}
+use Rattle.html_tree_builder.specs.declared.builder.TreeBuilder.{TreeBuilder}
+use Rattle.rules_table.specs.Settling.{meaning}
+use Rattle.rules_table.specs.State.{State}
+use Rattle.rules_table.specs.Welcome.{IsReady, IsWelcome}
 
 -- a call was refused
 unfoldable pub has_failed : {S H O : Type 0} → Parser S H O → Bool

@@ -1,32 +1,33 @@
 //! Fragments of pages.
 ghost use Rattle.std.specs.Prelude.{◌≡◌, ℕ, List, None, IfErr, IfOk, false, option_map};
-ghost use Rattle.html_forest.specs.Forest.{IsElement, nodes};
-ghost use Rattle.html_forest.specs.Orders.{IsForest};
+ghost use Rattle.tree_forest.specs.Forest.{IsElement, nodes};
+ghost use Rattle.tree_forest.specs.Orders.{IsForest};
 ghost use Rattle.html_lexemes.specs.declared.fault.ParseFault.TheVariants.{Memory};
 ghost use Rattle.html_tokenizer.specs.Pieces.{joined};
-ghost use Rattle.html_grammar.specs.Items.{Item};
-ghost use Rattle.html_grammar.specs.PageText.{page_text};
-ghost use Rattle.html_grammar.specs.Reading.{Reading};
+ghost use Rattle.token_grammar.specs.Items.{Item};
+ghost use Rattle.token_grammar.specs.PageText.{page_text};
+ghost use Rattle.token_grammar.specs.Reading.{Reading};
 ghost use Rattle.html_lexemes.specs.declared.states.State.{State as SeenTextState};
 ghost use Rattle.html_tree_builder.specs.Fragments.{FragmentReadsTo, IsTreeOfFragment, made_context, mode_from};
 ghost use Rattle.html_tree_builder.specs.Grown.{IsGrown, beginning};
 ghost use Rattle.html_tree_builder.specs.Parsers.{Completes, IsFit, has_failed, state_in};
-ghost use Rattle.tree_rules.specs.Settling.{meaning};
-ghost use Rattle.tree_rules.specs.State.{State};
-ghost use Rattle.tree_rules.specs.Welcome.{IsReady, IsWelcome};
+ghost use Rattle.rules_table.specs.Settling.{meaning};
+ghost use Rattle.rules_table.specs.State.{State};
+ghost use Rattle.rules_table.specs.Welcome.{IsReady, IsWelcome};
 
+use crate::builder::TreeBuilder;
+use crate::fragment::context_state;
 use crate::options::ParseOpts;
 use crate::parser::Parser;
-use html_forest::{
-    TreeSink, elements_stay, how_many_nodes_there_are, making_keeps_a_forest,
-    what_was_made_may_be_put,
-};
 use html_lexemes::states::State as TextState;
 use html_lexemes::{Attributes, BufferQueue, ParseFault, QualName, ReferenceTable};
 use html_tokenizer::{Tokenizer, TokenizerOpts};
 use std::alloc::Global;
-use tree_builder::{TreeBuilder, context_state};
-use tree_words::element_flags;
+use tree_forest::{
+    TreeSink, elements_stay, how_many_nodes_there_are, making_keeps_a_forest,
+    what_was_made_may_be_put,
+};
+use tree_predicates::element_flags;
 
 /// A parser of a fragment, for a context that is an element of the sink (WHATWG HTML, 13.4): what is parsed stands in
 /// an element `html` in the document. `scripting` says whether scripts would run where the context stands, and `form`

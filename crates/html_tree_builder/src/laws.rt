@@ -1,20 +1,20 @@
 //! A law of trees of pages.
 ghost use Rattle.std.specs.Prelude.{◌≡◌, ℕ, List};
-ghost use Rattle.html_forest.specs.Forest.{Forest};
-ghost use Rattle.html_forest.specs.declared.sink.QuirksMode.{QuirksMode as Quirks};
+ghost use Rattle.tree_forest.specs.Forest.{Forest};
+ghost use Rattle.tree_forest.specs.declared.sink.QuirksMode.{QuirksMode as Quirks};
 ghost use Rattle.html_tokenizer.specs.OtherSinks.{GoesOnAs, HoldsIn, with_sink};
 ghost use Rattle.html_tokenizer.specs.declared.tokenizer.Tokenizer.{Tokenizer};
 ghost use Rattle.html_tree_builder.specs.Fragments.{Fragment, IsTreeOfFragment};
 ghost use Rattle.html_tree_builder.specs.Grown.{Beginning, IsTreeOfPage};
 ghost use Rattle.html_tree_builder.specs.Parsers.{state_in};
-ghost use Rattle.tree_builder.specs.declared.builder.TreeBuilder.{TreeBuilder};
-ghost use Rattle.tree_rules.specs.Settling.{meaning};
-ghost use Rattle.tree_rules.specs.Welcome.{IsReady, IsWelcome};
+ghost use Rattle.html_tree_builder.specs.declared.builder.TreeBuilder.{TreeBuilder};
+ghost use Rattle.rules_table.specs.Settling.{meaning};
+ghost use Rattle.rules_table.specs.Welcome.{IsReady, IsWelcome};
 
-use html_forest::TreeSink;
-use html_grammar::laws::one_reading;
+use crate::builder::TreeBuilder;
 use html_tokenizer::a_sink_may_change_but_for_its_state;
-use tree_builder::TreeBuilder;
+use token_grammar::laws::one_reading;
+use tree_forest::TreeSink;
 
 /// A page has one tree: whoever parses equal texts with equal options, in whatever pieces, has equal forests.
 pub fn a_page_has_one_tree<S: TreeSink>()

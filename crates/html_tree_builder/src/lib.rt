@@ -1,7 +1,11 @@
-//! Whole pages into trees: the tree builder after the tokenizer. What its calls name of the crates below it is
+//! The parser of pages and fragments: a tree builder that is fed by the tokenizer.
+//!
+//! # Parsers
+//!
+//! Whole pages into trees: the tree builder, fed by the tokenizer. What its calls name of the crates below it is
 //! exported here too.
 //!
-//! # What is proved
+//! ## What is proved
 //!
 //! Its public clauses speak of a parser by words that are whole for those who call it (`Parsers.antt`): whether a
 //! call was refused (`has_failed`), whether it may be called (`IsFit`), and what it was fed with and a rest of the
@@ -38,27 +42,40 @@
 //! such a refusal. Not pinned: that an error from outside reaches the sink, and a call that always answers
 //! `Memory`.
 //!
-//! Tested (`tree_rows`): a fragment whose context stands in a form, and each call of a parser once. stored_rows has
+//! Tested (`test_trees`): a fragment whose context stands in a form, and each call of a parser once. stored_rows has
 //! an independent model's 600 cases, 137 fragments among them, as that model has them, and 66 pages and fragments
 //! worked out from the standard's words, each whole, a character at a time and, where it has at most 64 bytes, cut
 //! in two everywhere, and ends with status 1 where they differ. An earlier program, of whole pages alone, wrote a
 //! beginning of its output and said so with each request for memory refused in turn; stored_rows has not been run
 //! so to its end. `rt plant` ran on html_tree_builder: the 24 wrong bodies that it tried are refused; it tries none
 //! of `parse_document`, `finish` and `one`, of which the first and the last have wrong bodies of their own.
+//!
+//! # The tree builder
+//!
+//! The tree builder: a sink of tokens that builds the tree of a page in any sink of trees (WHATWG HTML, 13.2.6).
 #![tactic(auto)]
 
+mod builder;
+mod fragment;
 mod fragments;
+mod items;
 mod laws;
 mod options;
 mod pages;
 mod parser;
+mod refusals;
+mod sink;
 
+pub use builder::TreeBuilder;
+pub use fragment::context_state;
 pub use fragments::{parse_fragment, parse_fragment_for_element, parse_fragment_pieces};
-pub use html_forest::TreeSink;
-pub use html_tokenizer::{TokenSink, Tokenizer, TokenizerOpts, TokenizerResult, html_lexemes};
+pub use html_lexemes;
+pub use html_tokenizer::{TokenSink, Tokenizer, TokenizerOpts, TokenizerResult};
 pub use html_tree_state;
 pub use laws::{a_fragment_has_one_tree, a_page_has_one_tree};
 pub use options::ParseOpts;
 pub use pages::{parse_document, parse_pieces};
 pub use parser::Parser;
-pub use tree_builder::{TreeBuilder, TreeBuilderOpts};
+pub use refusals::{emits_twice, ends_twice};
+pub use rules_table::TreeBuilderOpts;
+pub use tree_forest::TreeSink;

@@ -2,8 +2,8 @@
 ghost use Rattle.std.specs.Prelude.{◌≡◌, IfOk};
 
 use html_tokenizer::TokenizerOpts;
+use rules_table::TreeBuilderOpts;
 use std::alloc::AllocError;
-use tree_builder::TreeBuilderOpts;
 
 /// How a page is parsed.
 #[derive(Drop)]

@@ -1,19 +1,19 @@
 //! Whole pages.
 ghost use Rattle.std.specs.Prelude.{◌≡◌, ℕ, List, IfErr, IfOk, false};
-ghost use Rattle.html_forest.specs.Orders.{IsForest};
+ghost use Rattle.tree_forest.specs.Orders.{IsForest};
 ghost use Rattle.html_lexemes.specs.declared.fault.ParseFault.TheVariants.{Memory};
 ghost use Rattle.html_tokenizer.specs.Pieces.{joined};
 ghost use Rattle.html_tree_builder.specs.Grown.{IsTreeOfPage, ReadsTo, beginning};
 ghost use Rattle.html_tree_builder.specs.Parsers.{Completes, IsFit, has_failed};
-ghost use Rattle.tree_rules.specs.State.{State};
+ghost use Rattle.rules_table.specs.State.{State};
 
+use crate::builder::TreeBuilder;
 use crate::options::ParseOpts;
 use crate::parser::Parser;
-use html_forest::TreeSink;
 use html_lexemes::{BufferQueue, ParseFault, ReferenceTable};
 use html_tokenizer::Tokenizer;
 use std::alloc::Global;
-use tree_builder::TreeBuilder;
+use tree_forest::TreeSink;
 
 /// A parser of a whole page. The sink's nodes are a forest, whose document has no children yet.
 #[tactic(auto, unfolding(crate::specs::Parsers::has_failed, crate::specs::Parsers::IsFit, crate::specs::Parsers::Completes))]

@@ -1,21 +1,22 @@
 //! A parser of pages.
-ghost use Rattle.std.specs.Prelude.{◌≡◌, ◌++◌, ℕ, List, [], Err, IfErr, IfOk, OnOk, chars, false, is_err};
-ghost use Rattle.std.specs.Prelude.{string_bytes, true};
+ghost use Rattle.std.specs.Prelude.{◌≡◌, ◌++◌, [], Err, IfErr, IfOk, List, OnOk, chars, false, is_err, string_bytes};
+ghost use Rattle.std.specs.Prelude.{true, ℕ};
 ghost use Rattle.html_lexemes.specs.declared.fault.ParseFault.TheVariants.{Failed, Memory};
 ghost use Rattle.html_tokenizer.specs.Pieces.{joined};
 ghost use Rattle.html_tokenizer.specs.OtherSinks.{GoesOnAs};
 ghost use Rattle.html_tree_builder.specs.Grown.{IsGrown};
 ghost use Rattle.html_tree_builder.specs.Parsers.{state_in};
-ghost use Rattle.tree_rules.specs.Settling.{meaning};
-ghost use Rattle.tree_rules.specs.Welcome.{IsReady, IsWelcome};
-ghost use Rattle.tree_rules.specs.State.{State};
+ghost use Rattle.rules_table.specs.Settling.{meaning};
+ghost use Rattle.rules_table.specs.Welcome.{IsReady, IsWelcome};
+ghost use Rattle.rules_table.specs.State.{State};
 
+use crate::builder::TreeBuilder;
 use crate::laws::a_builder_may_change_but_for_its_state;
-use html_forest::TreeSink;
 use html_lexemes::{BufferQueue, ErrorMessage, ParseFault, Text};
 use html_tokenizer::Tokenizer;
 use html_tree_state::Construction;
-use tree_builder::{Parse, TreeBuilder};
+use rules_actions::Parse;
+use tree_forest::TreeSink;
 
 /// Parses a page that comes in pieces into a sink of trees (WHATWG HTML, 13.2). Pauses that the page asks for, for a
 /// script or a named encoding, are passed over. Where a call is refused since allocation fails, every later one is
@@ -88,7 +89,7 @@ impl<S: TreeSink> Parser<S> {
         Ok(())
     }
 
-    /// Tells the sink of trees of an error that the parser did not find. Nothing else changes.
+    /// Emits the sink of trees of an error that the parser did not find. Nothing else changes.
     #[tactic(auto, unfolding(crate::specs::Parsers::has_failed, crate::specs::Parsers::IsFit, crate::specs::Parsers::Completes))]
     pub fn error(&mut self, message: String) -> Result<(), ParseFault>
         ensures fit { IsFit S.view self.old → IsFit S.view self.new }
@@ -103,7 +104,7 @@ impl<S: TreeSink> Parser<S> {
         }
         self.is_over = true;
         let message = ErrorMessage::Made(Text::from(message));
-        tell_error(&mut self.tokenizer, message)?;
+        emit_error(&mut self.tokenizer, message)?;
         self.is_over = false;
         Ok(())
     }
@@ -180,7 +181,7 @@ impl<S: TreeSink + Drop> Parser<S> {
 }
 
 // an error that the tokenizer did not find
-fn tell_error<S: TreeSink>(
+fn emit_error<S: TreeSink>(
     tokenizer: &mut Tokenizer<TreeBuilder<S>>,
     message: ErrorMessage,
 ) -> Result<(), ParseFault>

@@ -1,12 +1,12 @@
 -- The furthest block, looked for from the current node, and what stands above an element.
-use Rattle.std.proofs.Common.{◌≡◌, ℕ, ◌==◌, Bool, true, false, List, [], ◌∷◌, Option, None, Some, refl, ap, ◌∙◌}
-use Rattle.std.proofs.Common.{if◌then◌else◌}
-use Rattle.html_forest.specs.Forest.{Forest, is_in, name_of}
-use Rattle.name_sets.specs.ElementSets.{special_elements}
-use Rattle.name_sets.specs.Sets.{is_element_of}
-use Rattle.tree_building.specs.Adoption.{farther, last_special, nearer, or_itself}
-use Rattle.tree_building.specs.OpenElements.{first_of}
-use Rattle.tree_building.proofs.OpenLemmas.{if_other, other_way, rest_false}
+use Rattle.std.proofs.Common.{◌≡◌, ◌==◌, [], ◌∷◌, ◌∙◌, if◌then◌else◌, Bool, List, None, Option, Some, ap, false, refl}
+use Rattle.std.proofs.Common.{true, ℕ}
+use Rattle.tree_forest.specs.Forest.{Forest, is_in, name_of}
+use Rattle.tree_names.specs.ElementSets.{special_elements}
+use Rattle.tree_names.specs.Sets.{is_element_of}
+use Rattle.tree_model.specs.Adoption.{farther, last_special, nearer, or_itself}
+use Rattle.tree_model.specs.OpenElements.{first_of}
+use Rattle.tree_model.proofs.OpenLemmas.{if_other, other_way, rest_false}
 
 -- what was found farther, else what was found nearer
 abbrev pub or_nearer : Option ℕ → Option ℕ → Option ℕ

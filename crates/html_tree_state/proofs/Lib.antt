@@ -1,5 +1,5 @@
 pub mod BlockWords
 pub mod ResetLemmas
 pub mod WalkPlaces
-pub use Rattle.tree_building.proofs.OpenLemmas
-pub use Rattle.tree_building.proofs.Stacks
+pub use Rattle.tree_model.proofs.OpenLemmas
+pub use Rattle.tree_model.proofs.Stacks

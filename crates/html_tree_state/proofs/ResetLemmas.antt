@@ -1,12 +1,12 @@
 -- Which mode the open elements ask for, element by element.
-use Rattle.std.proofs.Common.{◌≡◌, ℕ, ◌<◌, Bool, false, refl, ap, ◌∙◌, List, [], ◌∷◌, ◌++◌, Option, None, Some, length}
-use Rattle.std.proofs.Common.{map, arith}
+use Rattle.std.proofs.Common.{◌≡◌, ◌<◌, ◌∙◌, [], ◌∷◌, ◌++◌, Bool, List, None, Option, Some, ap, arith, false, length}
+use Rattle.std.proofs.Common.{map, refl, ℕ}
 use Rattle.std.proofs.lemmas.List.{length-map, length-reverse}
 use Rattle.html_lexemes.specs.declared.names.QualName.{QualName}
-use Rattle.tree_building.specs.Building.{stack_of}
-use Rattle.tree_building.proofs.Stacks.{stack_of_last}
-use Rattle.tree_building.specs.Modes.{mode_above, own_mode, reset_mode, root_mode}
-use Rattle.tree_building.specs.InsertionMode.{InsertionMode}
+use Rattle.tree_model.specs.Building.{stack_of}
+use Rattle.tree_model.proofs.Stacks.{stack_of_last}
+use Rattle.tree_predicates.specs.Modes.{mode_above, own_mode, reset_mode, root_mode}
+use Rattle.tree_predicates.specs.declared.modes.InsertionMode.{InsertionMode}
 
 above_own : (rest : List QualName) (root own : InsertionMode) (further : InsertionMode) → ¬ (rest ≡ []) →
     mode_above rest root (Some own) further ≡ own

@@ -1,24 +1,24 @@
 -- Where the walk of the adoption agency stands in memory.
-use Rattle.std.proofs.Common.{◌≡◌, ℕ, zero, suc, ◌-◌, ◌<◌, ◌≤◌, ◌==◌, Bool, true, false, refl, sym, ap}
-use Rattle.std.proofs.Common.{subst, ◌∙◌, List, [], ◌∷◌, ◌++◌, Some, drop, length, map, slice_index_or, take}
-use Rattle.std.proofs.Common.{arith, eqb-true, if◌then◌else◌}
+use Rattle.std.proofs.Common.{◌≡◌, ◌-◌, ◌<◌, ◌≤◌, ◌==◌, ◌∙◌, [], ◌∷◌, ◌++◌, if◌then◌else◌, Bool, List, Some, ap, arith}
+use Rattle.std.proofs.Common.{drop, eqb-true, false, length, map, refl, slice_index_or, subst, suc, sym, take, true}
+use Rattle.std.proofs.Common.{zero, ℕ}
 use Rattle.std.proofs.lemmas.Bool.Decides.{nat_tests}
 use Rattle.std.specs.Bool.{nat_lt}
 use Rattle.std.proofs.lemmas.List.{append_assoc, length-append, length-map, length-reverse}
-use Rattle.tree_building.specs.Entries.{Entry, formatted, is_listed, marker, tag_in, up_to_marker}
-use Rattle.html_forest.specs.Forest.{is_in}
-use Rattle.html_forest.specs.Orders.{AreDistinct, IsIn}
+use Rattle.tree_formatting.specs.Entries.{Entry, formatted, is_listed, marker, tag_in, up_to_marker}
+use Rattle.tree_forest.specs.Forest.{is_in}
+use Rattle.tree_forest.specs.Orders.{AreDistinct, IsIn}
 use Rattle.html_lexemes.specs.declared.token.Tag.{Tag}
-use Rattle.tree_building.specs.Adoption.{Walk, farther, nearer, stepped, walked}
-use Rattle.tree_building.specs.Building.{Building, stack_of}
-use Rattle.tree_building.specs.CanAdopt.{CanAdopt}
-use Rattle.tree_building.specs.Laws.{Laws}
-use Rattle.tree_building.specs.Walks.{IsWalk, IsWalkedUp, begun}
-use Rattle.tree_building.proofs.NearerLemmas.{in_front_part}
-use Rattle.tree_building.proofs.OpenLemmas.{divided, stack_around}
-use Rattle.tree_building.proofs.WalkLemmas.{in_is, is_last, is_open, last_below, other}
-use Rattle.tree_building.proofs.WalkLemmas.{same_number, walk_begins, walk_goes_on}
-use Rattle.tree_building.proofs.WalkLists.{farther_there}
+use Rattle.tree_model.specs.Adoption.{Walk, farther, nearer, stepped, walked}
+use Rattle.tree_model.specs.Building.{Building, stack_of}
+use Rattle.tree_model.specs.CanAdopt.{CanAdopt}
+use Rattle.tree_model.specs.Laws.{Laws}
+use Rattle.tree_model.specs.Walks.{IsWalk, IsWalkedUp, begun}
+use Rattle.tree_model.proofs.NearerLemmas.{in_front_part}
+use Rattle.tree_model.proofs.OpenLemmas.{divided, stack_around}
+use Rattle.tree_model.proofs.WalkLemmas.{in_is, is_last, is_open, last_below, other, same_number, walk_begins}
+use Rattle.tree_model.proofs.WalkLemmas.{walk_goes_on}
+use Rattle.tree_model.proofs.WalkLists.{farther_there}
 
 -- as many are open as are held
 pub same_length : {H : Type 0} (number : H → ℕ) (xs : List H) → length (stack_of number xs) ≡ length xs

@@ -3,8 +3,8 @@ use Rattle.std.specs.Prelude.{ℕ, option_map}
 use Rattle.html_tree_state.specs.declared.adoption.TurnOutcome.{TurnOutcome}
 use Rattle.html_tree_state.specs.declared.adoption.TurnOutcome.TheVariants.{Again, OtherEnd, Over}
 use Rattle.html_tree_state.specs.declared.adoption.WalkPoint.{WalkPoint}
-use Rattle.tree_building.specs.Adoption.{Turn, Walk, again, other_end, over}
-use Rattle.tree_building.specs.Building.{Building}
+use Rattle.tree_model.specs.Adoption.{Turn, Walk, again, other_end, over}
+use Rattle.tree_model.specs.Building.{Building}
 
 abbrev pub walk_of : {H : Type 0} → (H → ℕ) → WalkPoint H → Building → Walk
 walk_of number point b = record {

@@ -1,22 +1,22 @@
 //! The adoption agency (WHATWG HTML, 13.2.6.4.7).
 ghost use Rattle.std.specs.Prelude.{◌≡◌, IfErr, IfOk, OnOk, Some, true};
-ghost use Rattle.tree_building.specs.Entries.{is_listed, tag_in, up_to_marker};
-ghost use Rattle.html_forest.specs.Orders.{IsForest, IsIn};
+ghost use Rattle.tree_formatting.specs.Entries.{is_listed, tag_in, up_to_marker};
+ghost use Rattle.tree_forest.specs.Orders.{IsForest, IsIn};
 ghost use Rattle.html_lexemes.specs.declared.fault.ParseFault.TheVariants.{Memory};
-ghost use Rattle.tree_building.specs.Adoption.{adopted, adoption, is_current_unlisted as is_unlisted, nearer};
-ghost use Rattle.tree_building.specs.Adoption.{stepped, turn, turn_with as turn_by};
-ghost use Rattle.tree_building.specs.Building.{seen};
-ghost use Rattle.tree_building.specs.CanAdopt.{CanAdopt};
-ghost use Rattle.tree_building.specs.Formatting.{unlisted};
-ghost use Rattle.tree_building.specs.Sound.{Sound};
+ghost use Rattle.tree_model.specs.Adoption.{adopted, adoption, is_current_unlisted as is_unlisted, nearer, stepped};
+ghost use Rattle.tree_model.specs.Adoption.{turn, turn_with as turn_by};
+ghost use Rattle.tree_model.specs.Building.{seen};
+ghost use Rattle.tree_model.specs.CanAdopt.{CanAdopt};
+ghost use Rattle.tree_model.specs.Formatting.{unlisted};
+ghost use Rattle.tree_model.specs.Sound.{Sound};
 ghost use Rattle.html_tree_state.specs.Turns.{turn_of, walk_of};
-ghost use Rattle.tree_building.specs.Walks.{IsWalkedUp};
+ghost use Rattle.tree_model.specs.Walks.{IsWalkedUp};
 
 use crate::construction::Construction;
-use html_forest::TreeSink;
 use html_lexemes::{LocalName, ParseFault, Tag};
-use name_sets::ElementSet;
-use tree_building::{adopting_keeps_sound, laws_of_forests, position};
+use tree_forest::TreeSink;
+use tree_model::{adopting_keeps_sound, laws_of_forests, position};
+use tree_names::ElementSet;
 
 // how many turns an end tag has
 const MOST_TURNS: usize = 8;

@@ -1,21 +1,21 @@
 //! The parts of a turn of the adoption agency (WHATWG HTML, 13.2.6.4.7).
 ghost use Rattle.std.specs.Prelude.{◌≡◌, IfErr, IfOk, IfSome, OnErr, OnOk, option_map};
-ghost use Rattle.html_forest.specs.Forest.{nodes};
-ghost use Rattle.html_forest.specs.Orders.{IsForest, IsIn};
+ghost use Rattle.tree_forest.specs.Forest.{nodes};
+ghost use Rattle.tree_forest.specs.Orders.{IsForest, IsIn};
 ghost use Rattle.html_lexemes.specs.declared.fault.ParseFault.TheVariants.{Memory};
-ghost use Rattle.tree_building.specs.Adoption.{ancestor_of, copied, placed, taken_over};
-ghost use Rattle.tree_building.specs.Building.{seen};
-ghost use Rattle.tree_building.specs.CanAdopt.{CanCopy, CanTakeOver, IsAncestor};
-ghost use Rattle.tree_building.specs.Formatting.{made_for};
-ghost use Rattle.tree_building.specs.Insertions.{place_for};
-ghost use Rattle.tree_building.specs.Points.{place_of};
-ghost use Rattle.tree_building.specs.Sound.{Sound};
+ghost use Rattle.tree_model.specs.Adoption.{ancestor_of, copied, placed, taken_over};
+ghost use Rattle.tree_model.specs.Building.{seen};
+ghost use Rattle.tree_model.specs.CanAdopt.{CanCopy, CanTakeOver, IsAncestor};
+ghost use Rattle.tree_model.specs.Formatting.{made_for};
+ghost use Rattle.tree_model.specs.Insertions.{place_for};
+ghost use Rattle.tree_model.specs.Points.{place_of};
+ghost use Rattle.tree_model.specs.Sound.{Sound};
 
 use crate::construction::Construction;
-use html_forest::{NodeOrText, TreeSink};
 use html_lexemes::{Namespace, ParseFault, QualName, Tag};
-use tree_building::tree_words::element_flags;
-use tree_building::{InsertionPoint, adopting_keeps_sound, adopting_may_be_done, laws_of_forests};
+use tree_forest::{NodeOrText, TreeSink};
+use tree_model::{InsertionPoint, adopting_keeps_sound, adopting_may_be_done, laws_of_forests};
+use tree_predicates::element_flags;
 
 impl<S: TreeSink> Construction<S> {
     // makes an HTML element for a tag, which stands nowhere yet

@@ -1,18 +1,18 @@
 //! What the adoption agency asks of the open elements (WHATWG HTML, 13.2.6.4.7).
 ghost use Rattle.std.specs.Prelude.{◌≡◌, ◌<◌, ℕ, List, ◌∷◌, ◌++◌, IfSome, length, option_map};
-ghost use Rattle.tree_building.specs.Entries.{last_named};
-ghost use Rattle.html_forest.specs.Forest.{IsElement, is_in};
-ghost use Rattle.name_sets.specs.ElementSets.{scope_barriers};
-ghost use Rattle.tree_building.specs.Adoption.{farther, furthest_block as furthest_block_of};
-ghost use Rattle.tree_building.specs.Building.{seen};
-ghost use Rattle.tree_building.specs.OpenElements.{first_of, up_to};
-ghost use Rattle.tree_building.specs.Sound.{Sound};
+ghost use Rattle.tree_formatting.specs.Entries.{last_named};
+ghost use Rattle.tree_forest.specs.Forest.{IsElement, is_in};
+ghost use Rattle.tree_names.specs.ElementSets.{scope_barriers};
+ghost use Rattle.tree_model.specs.Adoption.{farther, furthest_block as furthest_block_of};
+ghost use Rattle.tree_model.specs.Building.{seen};
+ghost use Rattle.tree_model.specs.OpenElements.{first_of, up_to};
+ghost use Rattle.tree_model.specs.Sound.{Sound};
 
 use crate::construction::Construction;
-use html_forest::TreeSink;
 use html_lexemes::LocalName;
-use name_sets::{Scope, is_special};
-use tree_building::{last_element, position};
+use tree_forest::TreeSink;
+use tree_model::{last_element, position};
+use tree_names::{Scope, is_special};
 
 impl<S: TreeSink> Construction<S> {
     /// Whether an element is open.

@@ -1,19 +1,19 @@
 //! Comments, doctypes, attributes and the quirks mode (WHATWG HTML, 13.2.6.1 and 13.2.6.4.1).
 ghost use Rattle.std.specs.Prelude.{◌≡◌, IfErr, OnOk};
-ghost use Rattle.html_forest.specs.Conditions.{IsPlace};
-ghost use Rattle.html_forest.specs.Forest.{IsElement};
-ghost use Rattle.html_forest.specs.Orders.{IsForest};
-ghost use Rattle.html_forest.specs.Places.{below};
+ghost use Rattle.tree_forest.specs.Conditions.{IsPlace};
+ghost use Rattle.tree_forest.specs.Forest.{IsElement};
+ghost use Rattle.tree_forest.specs.Orders.{IsForest};
+ghost use Rattle.tree_forest.specs.Places.{below};
 ghost use Rattle.html_lexemes.specs.declared.fault.ParseFault.TheVariants.{Memory};
-ghost use Rattle.tree_building.specs.Building.{seen};
-ghost use Rattle.tree_building.specs.Insertions.{commented_at, here, root_of, with_attributes_of, with_doctype_of};
-ghost use Rattle.tree_building.specs.Points.{place_of};
-ghost use Rattle.tree_building.specs.Sound.{Sound};
+ghost use Rattle.tree_model.specs.Building.{seen};
+ghost use Rattle.tree_model.specs.Insertions.{commented_at, here, root_of, with_attributes_of, with_doctype_of};
+ghost use Rattle.tree_model.specs.Points.{place_of};
+ghost use Rattle.tree_model.specs.Sound.{Sound};
 
 use crate::construction::Construction;
-use html_forest::{NodeOrText, QuirksMode, TreeSink};
 use html_lexemes::{Attributes, Doctype, ParseFault, Text};
-use tree_building::{InsertionPoint, first_element, laws_of_forests};
+use tree_forest::{NodeOrText, QuirksMode, TreeSink};
+use tree_model::{InsertionPoint, first_element, laws_of_forests};
 
 impl<S: TreeSink> Construction<S> {
     /// Inserts a comment at the appropriate place ("insert a comment").

@@ -1,5 +1,5 @@
-use html_forest::TreeSink;
-use tree_building::Held;
+use tree_forest::TreeSink;
+use tree_model::Held;
 
 /// A tree that is being built, in its sink.
 pub struct Construction<S: TreeSink> {

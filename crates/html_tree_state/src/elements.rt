@@ -1,20 +1,19 @@
 //! Elements, comments and attributes that are inserted (WHATWG HTML, 13.2.6.1).
 ghost use Rattle.std.specs.Prelude.{◌≡◌, IfErr, IfOk, OnOk};
-ghost use Rattle.html_forest.specs.Conditions.{IsPlace};
-ghost use Rattle.html_forest.specs.Forest.{nodes};
-ghost use Rattle.html_forest.specs.Orders.{IsForest};
+ghost use Rattle.tree_forest.specs.Conditions.{IsPlace};
+ghost use Rattle.tree_forest.specs.Forest.{nodes};
+ghost use Rattle.tree_forest.specs.Orders.{IsForest};
 ghost use Rattle.html_lexemes.specs.declared.fault.ParseFault.TheVariants.{Memory};
-ghost use Rattle.tree_building.specs.Building.{seen};
-ghost use Rattle.tree_building.specs.Insertions.{here, inserted_by};
-ghost use Rattle.tree_building.specs.Insertions.{with_element};
-ghost use Rattle.tree_building.specs.Points.{place_of};
-ghost use Rattle.tree_building.specs.Sound.{Sound};
+ghost use Rattle.tree_model.specs.Building.{seen};
+ghost use Rattle.tree_model.specs.Insertions.{here, inserted_by, with_element};
+ghost use Rattle.tree_model.specs.Points.{place_of};
+ghost use Rattle.tree_model.specs.Sound.{Sound};
 
 use crate::construction::Construction;
-use html_forest::{NodeOrText, TreeSink};
 use html_lexemes::{Attributes, ParseFault, QualName};
-use tree_building::tree_words::element_flags;
-use tree_building::{InsertionPoint, PushFlag, laws_of_forests};
+use tree_forest::{NodeOrText, TreeSink};
+use tree_model::{InsertionPoint, PushFlag, laws_of_forests};
+use tree_predicates::element_flags;
 
 impl<S: TreeSink> Construction<S> {
     /// Inserts an element at the appropriate place ("insert a foreign element").

@@ -1,17 +1,17 @@
 //! What end tags pop (WHATWG HTML, 13.2.6.4.7).
 ghost use Rattle.std.specs.Prelude.{◌≡◌, IfErr, OnOk, option_map};
-ghost use Rattle.html_forest.specs.Orders.{IsForest};
+ghost use Rattle.tree_forest.specs.Orders.{IsForest};
 ghost use Rattle.html_lexemes.specs.declared.fault.ParseFault.TheVariants.{Memory};
-ghost use Rattle.tree_building.specs.Adoption.{closed_by_other_end, named_before_special, popped_with};
-ghost use Rattle.tree_building.specs.Building.{seen};
-ghost use Rattle.tree_building.specs.Scopes.{is_open};
-ghost use Rattle.name_sets.specs.Wanted.{elements_of};
-ghost use Rattle.tree_building.specs.Sound.{Sound};
+ghost use Rattle.tree_model.specs.Adoption.{closed_by_other_end, named_before_special, popped_with};
+ghost use Rattle.tree_model.specs.Building.{seen};
+ghost use Rattle.tree_model.specs.Scopes.{is_open};
+ghost use Rattle.tree_names.specs.Wanted.{elements_of};
+ghost use Rattle.tree_model.specs.Sound.{Sound};
 
 use crate::construction::Construction;
-use html_forest::TreeSink;
 use html_lexemes::{LocalName, ParseFault};
-use name_sets::{ElementSet, is_special};
+use tree_forest::TreeSink;
+use tree_names::{ElementSet, is_special};
 
 impl<S: TreeSink> Construction<S> {
     /// Whether an element of a set is open.

@@ -1,16 +1,15 @@
 //! Foreign content and the open elements (WHATWG HTML, 13.2.6 and 13.2.6.5).
 ghost use Rattle.std.specs.Prelude.{◌≡◌, IfErr, IfOk, OnOk, is_some, option_map};
-ghost use Rattle.html_forest.specs.Orders.{IsForest};
+ghost use Rattle.tree_forest.specs.Orders.{IsForest};
 ghost use Rattle.html_lexemes.specs.declared.fault.ParseFault.TheVariants.{Memory};
-ghost use Rattle.tree_building.specs.Building.{seen};
-ghost use Rattle.tree_building.specs.Foreign.{adjusted_current, broken_out, closed_by_foreign_end};
-ghost use Rattle.tree_building.specs.Foreign.{named_foreign};
-ghost use Rattle.tree_building.specs.Sound.{Sound};
+ghost use Rattle.tree_model.specs.Building.{seen};
+ghost use Rattle.tree_model.specs.Foreign.{adjusted_current, broken_out, closed_by_foreign_end, named_foreign};
+ghost use Rattle.tree_model.specs.Sound.{Sound};
 
 use crate::construction::Construction;
-use html_forest::TreeSink;
 use html_lexemes::{LocalName, ParseFault};
-use tree_building::tree_words::{closes_foreign, is_of_html, stops_break_out};
+use tree_forest::TreeSink;
+use tree_predicates::{closes_foreign, is_of_html, stops_break_out};
 
 impl<S: TreeSink> Construction<S> {
     /// The adjusted current node: a fragment's context while no more than its root is open, else the current node.

@@ -1,20 +1,20 @@
 //! The list of active formatting elements and the tree (WHATWG HTML, 13.2.4.3).
 ghost use Rattle.std.specs.Prelude.{◌≡◌, IfErr, IfOk, OnOk, true};
-ghost use Rattle.html_forest.specs.Forest.{IsElement, nodes};
-ghost use Rattle.html_forest.specs.Orders.{IsForest};
-ghost use Rattle.name_sets.specs.Sets.{is_one_of};
-ghost use Rattle.name_sets.specs.TagSets.{formatting};
+ghost use Rattle.tree_forest.specs.Forest.{IsElement, nodes};
+ghost use Rattle.tree_forest.specs.Orders.{IsForest};
+ghost use Rattle.tree_names.specs.Sets.{is_one_of};
+ghost use Rattle.tree_names.specs.TagSets.{formatting};
 ghost use Rattle.html_lexemes.specs.declared.fault.ParseFault.TheVariants.{Memory};
-ghost use Rattle.tree_building.specs.Building.{seen};
-ghost use Rattle.tree_building.specs.Formatting.{cleared, inserted_for, inserted_formatting, marked};
-ghost use Rattle.tree_building.specs.Scopes.{taken_off, with_closed_p};
-ghost use Rattle.tree_building.specs.Sound.{Sound};
+ghost use Rattle.tree_model.specs.Building.{seen};
+ghost use Rattle.tree_model.specs.Formatting.{cleared, inserted_for, inserted_formatting, marked};
+ghost use Rattle.tree_model.specs.Scopes.{taken_off, with_closed_p};
+ghost use Rattle.tree_model.specs.Sound.{Sound};
 
 use crate::construction::Construction;
-use html_forest::TreeSink;
 use html_lexemes::{Namespace, ParseFault, QualName, Tag};
-use name_sets::{ElementSet, Scope};
-use tree_building::{PushFlag, adopting_keeps_sound, laws_of_forests};
+use tree_forest::TreeSink;
+use tree_model::{PushFlag, adopting_keeps_sound, laws_of_forests};
+use tree_names::{ElementSet, Scope};
 
 impl<S: TreeSink> Construction<S> {
     /// Puts a marker into the list.

@@ -1,21 +1,21 @@
 //! Where nodes and texts are inserted (WHATWG HTML, 13.2.6.1).
 ghost use Rattle.std.specs.Prelude.{◌≡◌, ℕ, IfErr, OnErr, OnOk, Some, true};
-ghost use Rattle.html_forest.specs.Conditions.{CanPut, IsPlace};
-ghost use Rattle.html_forest.specs.Forest.{IsElement, contents_of};
-ghost use Rattle.html_forest.specs.Orders.{IsForest};
-ghost use Rattle.html_forest.specs.Places.{put};
-ghost use Rattle.html_forest.specs.Sinks.{child_of};
+ghost use Rattle.tree_forest.specs.Conditions.{CanPut, IsPlace};
+ghost use Rattle.tree_forest.specs.Forest.{IsElement, contents_of};
+ghost use Rattle.tree_forest.specs.Orders.{IsForest};
+ghost use Rattle.tree_forest.specs.Places.{put};
+ghost use Rattle.tree_forest.specs.Sinks.{child_of};
 ghost use Rattle.html_lexemes.specs.declared.fault.ParseFault.TheVariants.{Memory};
-ghost use Rattle.tree_building.specs.Building.{seen};
-ghost use Rattle.tree_building.specs.Insertions.{foster_place, here, inside, is_template, place_for, said};
-ghost use Rattle.tree_building.specs.Points.{place_of};
-ghost use Rattle.tree_building.specs.Sound.{Sound};
+ghost use Rattle.tree_model.specs.Building.{seen};
+ghost use Rattle.tree_model.specs.Insertions.{foster_place, here, inside, is_template, place_for, said};
+ghost use Rattle.tree_model.specs.Points.{place_of};
+ghost use Rattle.tree_model.specs.Sound.{Sound};
 
 use crate::construction::Construction;
-use html_forest::{NodeOrText, TreeSink};
 use html_lexemes::{ParseFault, Text};
-use name_sets::{is_foster_target, is_html};
-use tree_building::{InsertionPoint, last_element, laws_of_forests};
+use tree_forest::{NodeOrText, TreeSink};
+use tree_model::{InsertionPoint, last_element, laws_of_forests};
+use tree_names::{is_foster_target, is_html};
 
 impl<S: TreeSink> Construction<S> {
     /// Where a node is inserted into an open element: after its children, those of its contents if it is a template.

@@ -1,18 +1,18 @@
 //! What is popped off the stack of open elements (WHATWG HTML, 13.2.4.2 and 13.2.6.3).
 ghost use Rattle.std.specs.Prelude.{◌≡◌, IfErr, OnOk, option_map};
-ghost use Rattle.html_forest.specs.Orders.{IsForest};
+ghost use Rattle.tree_forest.specs.Orders.{IsForest};
 ghost use Rattle.html_lexemes.specs.declared.fault.ParseFault.TheVariants.{Memory};
-ghost use Rattle.tree_building.specs.Building.{seen};
-ghost use Rattle.tree_building.specs.OpenElements.{first_of};
-ghost use Rattle.tree_building.specs.Scopes.{has_item as is_item_open, implied, popped, popped_down_to, popped_to};
-ghost use Rattle.tree_building.specs.Scopes.{is_item_barrier, with_closed_item};
-ghost use Rattle.name_sets.specs.Wanted.{elements_of};
-ghost use Rattle.tree_building.specs.Sound.{Sound};
+ghost use Rattle.tree_model.specs.Building.{seen};
+ghost use Rattle.tree_model.specs.OpenElements.{first_of};
+ghost use Rattle.tree_model.specs.Scopes.{has_item as is_item_open, implied, is_item_barrier, popped, popped_down_to};
+ghost use Rattle.tree_model.specs.Scopes.{popped_to, with_closed_item};
+ghost use Rattle.tree_names.specs.Wanted.{elements_of};
+ghost use Rattle.tree_model.specs.Sound.{Sound};
 
 use crate::construction::Construction;
-use html_forest::TreeSink;
 use html_lexemes::{ParseFault, QualName};
-use name_sets::{ElementSet, is_address_div_or_p, is_special};
+use tree_forest::TreeSink;
+use tree_names::{ElementSet, is_address_div_or_p, is_special};
 
 impl<S: TreeSink> Construction<S> {
     /// The current node, where an element is open.

@@ -1,18 +1,18 @@
 //! The list of active formatting elements is made anew (WHATWG HTML, 13.2.4.3, "reconstruct the active formatting
 //! elements").
 ghost use Rattle.std.specs.Prelude.{◌≡◌, ◌+◌, ◌<◌, IfErr, OnOk, length};
-ghost use Rattle.tree_building.specs.Entries.{entries_of, entry_of};
-ghost use Rattle.html_forest.specs.Orders.{IsForest};
+ghost use Rattle.tree_formatting.specs.Entries.{entries_of, entry_of};
+ghost use Rattle.tree_forest.specs.Orders.{IsForest};
 ghost use Rattle.html_lexemes.specs.declared.fault.ParseFault.TheVariants.{Memory};
-ghost use Rattle.tree_building.specs.Building.{seen, stack_of};
-ghost use Rattle.tree_building.specs.Formatting.{is_kept, made_already, made_from, reconstructed};
-ghost use Rattle.tree_building.specs.Sound.{Sound};
+ghost use Rattle.tree_model.specs.Building.{seen, stack_of};
+ghost use Rattle.tree_model.specs.Formatting.{is_kept, made_already, made_from, reconstructed};
+ghost use Rattle.tree_model.specs.Sound.{Sound};
 
 use crate::construction::Construction;
-use html_forest::TreeSink;
 use html_lexemes::ParseFault;
-use tree_building::formatting_list::FormatEntry;
-use tree_building::{laws_of_forests, position};
+use tree_forest::TreeSink;
+use tree_formatting::FormatEntry;
+use tree_model::{laws_of_forests, position};
 
 impl<S: TreeSink> Construction<S> {
     /// Opens anew each listed element after the last marker, and after the last one that is open ("reconstruct the

@@ -1,14 +1,14 @@
 //! Resetting the insertion mode, and the root (WHATWG HTML, 13.2.4.1).
 ghost use Rattle.std.specs.Prelude.{◌≡◌, ◌<◌, length, option_map, slice_index_or};
-ghost use Rattle.tree_building.specs.Building.{seen};
-ghost use Rattle.tree_building.specs.Names.{names_of};
-ghost use Rattle.tree_building.specs.Sound.{Sound};
-ghost use Rattle.tree_building.specs.Modes.{reset_mode};
+ghost use Rattle.tree_model.specs.Building.{seen};
+ghost use Rattle.tree_model.specs.Names.{names_of};
+ghost use Rattle.tree_model.specs.Sound.{Sound};
+ghost use Rattle.tree_predicates.specs.Modes.{reset_mode};
 
 use crate::construction::Construction;
-use html_forest::TreeSink;
 use html_lexemes::QualName;
-use tree_building::tree_words::{InsertionMode, own_mode, root_mode};
+use tree_forest::TreeSink;
+use tree_predicates::{InsertionMode, own_mode, root_mode};
 
 /// The root, which was opened first.
 pub fn html_elem<H>(open_elems: &[H]) -> &H

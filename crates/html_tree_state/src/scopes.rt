@@ -1,13 +1,13 @@
 //! Scopes (WHATWG HTML, 13.2.4.2).
 ghost use Rattle.std.specs.Prelude.{◌≡◌};
-ghost use Rattle.tree_building.specs.Building.{seen};
-ghost use Rattle.tree_building.specs.Scopes.{is_in_scope};
-ghost use Rattle.name_sets.specs.Wanted.{barriers_of, elements_of};
-ghost use Rattle.tree_building.specs.Sound.{Sound};
+ghost use Rattle.tree_model.specs.Building.{seen};
+ghost use Rattle.tree_model.specs.Scopes.{is_in_scope};
+ghost use Rattle.tree_names.specs.Wanted.{barriers_of, elements_of};
+ghost use Rattle.tree_model.specs.Sound.{Sound};
 
 use crate::construction::Construction;
-use html_forest::TreeSink;
-use name_sets::{ElementSet, Scope};
+use tree_forest::TreeSink;
+use tree_names::{ElementSet, Scope};
 
 impl<S: TreeSink> Construction<S> {
     /// Whether an element of a set is in a scope: from the current node up it stands before the first barrier, or is

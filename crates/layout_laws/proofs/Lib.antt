@@ -1,6 +1,16 @@
-pub mod LaidRetagged
-pub mod OptionLemmas
-pub mod OverflowLemmas
-pub mod RowWidths
-pub mod WidthLemmas
-pub mod HangingLemmas
+mod BareSteps
+mod BareTables
+mod CellWidthLemmas
+mod MergedLemmas
+mod NumberLemmas
+mod RoomLemmas
+mod RowEndLemmas
+mod RowFitLemmas
+mod SeatLemmas
+mod SlotLemmas
+mod TableLemmas
+mod TableRoomLemmas
+mod TableStates
+mod TableWidthLemmas
+mod ValueWidthLemmas
+mod WidthLemmas

@@ -1,287 +1,513 @@
--- Each call keeps the lines of a block within its width.
-use Rattle.std.proofs.Common.{◌≡◌, ℕ, ◌-◌, ◌<◌, ◌≤◌, ⊎_elim, Bool, true, false, ◌&&◌, List, [], ◌∷◌, ◌++◌, Option, None}
-use Rattle.std.proofs.Common.{Some, IfSome, map, sym, subst, refl, arith}
-use Rattle.std.specs.Prelude.{All, replicate, if◌then◌else◌}
-use Rattle.std.specs.Option.{option_map}
-use Rattle.std.proofs.lemmas.Bool.{cases_lt}
-use Rattle.std.proofs.lemmas.List.{append-nil}
-use Rattle.std.proofs.lemmas.List.Elements.{All-nil, All-head, All-tail, All-push}
-use Rattle.tagged_lines.specs.Tagged.{Item, character, marker, line_columns}
-use Rattle.text_pieces.specs.Items.{has_text}
-use Rattle.text_pieces.specs.Sources.{is_filled}
+-- No line passes the width of its renderer, whatever values are laid out outside of tables.
+use Rattle.std.proofs.Common.{◌≡◌, ◌+◌, ◌-◌, ◌≤◌, ◌≤ℤ◌, ◌∙◌, Bool, IfSome, List, None, Option, Some, ap, arith, false}
+use Rattle.std.proofs.Common.{max, refl, subst, suc, sym, true, zero, ℕ, ℤ}
+use Rattle.std.specs.Prelude.{FitsSigned, if◌then◌else◌}
+use Rattle.std.specs.Int.{w64}
+use Rattle.std.specs.Option.{option_and_then}
+use Rattle.std.proofs.lemmas.Int.{ints}
+use Rattle.block_layout_laws.proofs.OptionLemmas.{known, mapped, chained}
+use Rattle.block_renderer.specs.NewParts.{part_of}
+use Rattle.table_widths.specs.Across.{FitAcross, widths_across}
+use Rattle.block_trait.specs.Calls.{Call, step}
+use Rattle.block_trait.specs.Calls as calls
+use Rattle.block_trait.specs.Renderers.{Marking, Sub, room_after}
+use Rattle.block_laws.specs.RendererLaws.{CallFits, IsKeptWithin, StaysWithin}
+use Rattle.table_grid.specs.declared.columns.Column.{Column}
+use Rattle.table_widths.specs.RowLaws.{AreWholeRows}
+use Rattle.text_lines.specs.Columns.{text_columns}
+use Rattle.text_block_renderer.specs.PartLaws.{AreKeptWithin, PartsStayWithin}
+use Rattle.text_block_renderer.specs.Parts.{Parts, begin_part_link, finish_part_link}
+use Rattle.text_decorators.specs.Marks.{IsSteady, Mark, ordered_item, unordered_item}
+use Rattle.text_decorators.specs.Marks as marks
 use Rattle.text_pieces.specs.declared.white_space.WhiteSpace.{WhiteSpace}
-use Rattle.text_wrapping.specs.Blocks.{Block, empty_block, padded, added, ended, ended_lines, marked_by, broken}
-use Rattle.text_wrapping.specs.Blocks.{fragments_taken, without_source, ends_in_columns}
-use Rattle.text_wrapping.specs.Lines.{lines_in}
-use Rattle.text_wrapping.specs.LawWords.{IsWithin as IsTextWithin}
-use Rattle.preserved_text.specs.Preserved.{names_of}
-use Rattle.text_borders.specs.Lines.{BlockLine, text}
-use Rattle.text_borders.specs.Across.{CellLine}
-use Rattle.text_borders.specs.AcrossLaws.{LineFits, CellFits}
-use Rattle.block_layout.specs.declared.measure.Measure.{Measure}
-use Rattle.block_layout.specs.Laid.{Running, Laid, nothing_laid, padding, with_line, add_line, add_text_line}
-use Rattle.block_layout.specs.Laid.{add_text_lines, without_running, lines_behind, laid_text, text_laid, flush_of}
-use Rattle.block_layout.specs.Laid.{flush, started, behind_empty_line, add_empty_line, parted, start_block}
-use Rattle.block_layout.specs.Laid.{without_hanging, start_table, end_block, running_or_new, with_added, with_marker}
-use Rattle.block_layout.specs.Laid.{with_running, run_on, runs_otherwise, enter_mode, add_text, start_awaited, mark}
-use Rattle.block_layout.specs.Laid.{with_text_of, broken_line, break_of, break_line, has_content}
-use Rattle.layout_laws.specs.LayoutLaws.{IsKept, IsWithin}
-use Rattle.layout_laws.proofs.OptionLemmas.{known, mapped, chained}
+use Rattle.render_sizes.specs.Extents.{Measure, table_in}
+use Rattle.render_values.specs.Values.{Values}
+use Rattle.render_values.specs.declared.info.Head.{Head}
+use Rattle.render_values.specs.declared.info.RenderInfo.{RenderInfo}
+use Rattle.render_values.specs.declared.info.RenderInfo.TheVariants as infos
+use Rattle.render_values.specs.declared.style.RenderStyle.{RenderStyle}
+use Rattle.layout_state.specs.Begins.{begins, ends, following, fragment_leads, leading, named, style_begins, style_ends}
+use Rattle.layout_state.specs.Items.{item_columns, item_mark, last_mark, next_mark, number_after, padded, spaces}
+use Rattle.layout_state.specs.LayoutState.{LayoutState, Step, after_prefix, begins_link, ends_link, for_some, goes_on}
+use Rattle.layout_state.specs.LayoutState.{in_current, in_part, in_parts, in_turn, mark_of, outside, part_begun}
+use Rattle.layout_state.specs.LayoutState.{part_ended, says}
+use Rattle.layout_state.specs.declared.around.Around.{Around}
+use Rattle.layout_state.specs.declared.around.Around.TheVariants.{Flow, Items}
+use Rattle.layout_state.specs.declared.around.ItemMark.{ItemMark}
+use Rattle.layout_state.specs.declared.around.ItemMark.TheVariants.{Bullet, Number}
+use Rattle.layout_values.specs.Lay.{after_mark, listed, placed, styled}
+use Rattle.layout_laws.proofs.NumberLemmas.{Reaches, first_reaches, next_above, next_reaches, number_fits, padded_fits}
+use Rattle.layout_laws.proofs.NumberLemmas.{spaces_fit, up_to_last}
+use Rattle.layout_laws.proofs.RowFitLemmas.{SeatLaws}
 
--- what the crate below says of texts
-pub record TextLaws (S : Type 0) : Type 0 where
-  pub empty : (width : ℕ) (padding : Option S) → IsTextWithin width (empty_block width false padding)
-  pub added : (width : ℕ) (mode : WhiteSpace) (cs : List ℕ) (main further : S) (b new : Block S)
-      → IsTextWithin width b → added mode cs main further b ≡ Some new → IsTextWithin width new
-  pub marked : (width : ℕ) (name : List ℕ) (b : Block S) → IsTextWithin width b
-      → IsTextWithin width (marked_by name b)
-  pub ended : (width : ℕ) (b new : Block S) → IsTextWithin width b → ended b ≡ Some new → IsTextWithin width new
-  pub lines : (width : ℕ) (b : Block S) (lines : List (List (Item S))) → IsTextWithin width b
-      → ended_lines b ≡ Some lines → All (λ line. line_columns line ≤ width) lines
-  pub filled : (width : ℕ) (tag : S) (line : List (Item S)) → line_columns line ≤ width
-      → line_columns (padded width (Some tag) line) ≡ width
+-- what the crates below say of renderers, and prefixes are steady
+pub record WidthLaws {H A : Type 0} (m : Marking H A) : Type 0 where
+  pub does : (c : Call (Sub H A)) (s new : Sub H A) → IsKeptWithin s → CallFits c s → step m c s ≡ Some new
+      → StaysWithin s new
+  pub part : (width : ℕ) (s : Sub H A) → IsKeptWithin s → IsKeptWithin (part_of m.sub width s)
+  pub trailing : (prefix least : ℕ) (s : Sub H A) → IsKeptWithin s
+      → IfSome (room_after prefix least s) (λ n. (prefix + n ≡ s.width) × ((1 ≤ n) × (least ≤ n)))
+  pub link_begins : (target : List ℕ) (p new : Parts H A) → AreKeptWithin p → begin_part_link m target p ≡ Some new
+      → PartsStayWithin p new
+  pub link_ends : (p new : Parts H A) → AreKeptWithin p → finish_part_link m p ≡ Some new → PartsStayWithin p new
+  pub steady : IsSteady m.mark_text
+  pub seats : SeatLaws (List A)
+  pub across : (columns : List Column) (width : ℕ) → IfSome (widths_across columns width) (FitAcross columns width)
+  pub tables : (w : Measure) (values : Values) → AreWholeRows (table_in w values)
 
-abbrev pub Fits : {S : Type 0} → ℕ → CellLine S → Type 0
-Fits width l = LineFits width l.line
+-- ---- what a list says
 
-abbrev FitsIn : {S : Type 0} → ℕ → List (Item S) → Type 0
-FitsIn width line = line_columns line ≤ width
+abbrev pub next_around : Around → Around
+next_around Flow = Flow
+next_around (Items mark columns least) = Items (next_mark mark) columns least
 
-abbrev RunsWithin : {S : Type 0} → ℕ → Running S → Type 0
-RunsWithin width r = IsTextWithin width r.text
+-- after so many values
+abbrev pub around_after : ℕ → Around → Around
+around_after zero a = a
+around_after (suc n) a = around_after n (next_around a)
 
--- ---- lines
+pub flow_after : (n : ℕ) → around_after n Flow ≡ Flow
+flow_after zero = refl
+flow_after (suc n) = flow_after n
 
-pub line_put : {S : Type 0} (m : Measure) (line : BlockLine S) (content : Bool) (b : Laid S) → LineFits m.width line
-    → IsWithin m b → IsWithin m (with_line line content b)
-line_put {S = S} m line content b fits within =
-    let l : CellLine S = record { line = line; content = content } in
-    record {
-      lines = All-push (Fits m.width) b.lines l within.lines fits;
-      running = within.running;
-      hanging = within.hanging;
-    }
+-- Whatever a decorator holds, the next value's mark stays within the list's columns.
+abbrev pub MarkFits : {H A : Type 0} → Marking H A → Around → Type 0
+MarkFits m Flow = Unit {0}
+MarkFits {H} m (Items mark columns least) = (h : H) → text_columns (m.mark_text h (item_mark mark)) ≤ columns
 
-markers_columns : {S : Type 0} (names : List (List ℕ)) (items : List (Item S))
-    → line_columns (map (λ name. marker name) names ++ items) ≡ line_columns items
-markers_columns [] items = refl
-markers_columns (name ∷ names) items = markers_columns names items
+-- So do the marks of so many.
+abbrev pub MarksFit : {H A : Type 0} → Marking H A → ℕ → Around → Type 0
+MarksFit m zero a = Unit {0}
+MarksFit m (suc n) a = MarkFits m a × MarksFit m n (next_around a)
 
-padded_fits : {S : Type 0} (laws : TextLaws S) (width : ℕ) (padding : Option S) (line : List (Item S))
-    → line_columns line ≤ width → line_columns (padded width padding line) ≤ width
-padded_fits laws width None line fits = fits
-padded_fits laws width (Some tag) line fits = let same = laws.filled width tag line fits in omega (arith, same)
+pub flow_fits : {H A : Type 0} (m : Marking H A) (n : ℕ) → MarksFit m n Flow
+flow_fits m zero = tt
+flow_fits m (suc n) = (tt, flow_fits m n)
 
-pub line_added : {S : Type 0} (laws : TextLaws S) (m : Measure) (tag : S) (content : Bool) (items : List (Item S))
-    (b : Laid S) → line_columns items ≤ m.width → IsWithin m b → IsWithin m (add_line m tag content items b)
-line_added {S = S} laws m tag content items b fits within =
-    let line : List (Item S) = map (λ name. marker name) b.markers ++ items in
-    let put = line_put m (text (padded m.width (padding m tag) line)) content b
-    (padded_fits laws m.width (padding m tag) line (omega (arith, fits, markers_columns b.markers items))) within in
-    record { lines = put.lines; running = put.running; hanging = put.hanging }
+bullets_fit : {H A : Type 0} (m : Marking H A) (columns least n : ℕ)
+    → ((h : H) → text_columns (m.mark_text h unordered_item) ≤ columns) → MarksFit m n (Items Bullet columns least)
+bullets_fit m columns least zero fits = tt
+bullets_fit m columns least (suc n) fits = (fits, bullets_fit m columns least n fits)
 
--- ---- the running text becomes lines
+numbers_fit : {H A : Type 0} (m : Marking H A) → IsSteady m.mark_text → (first last : ℤ) (columns least : ℕ)
+    → FitsSigned w64 first → FitsSigned w64 last
+    → ((h : H) → max (text_columns (m.mark_text h (ordered_item first)))
+    (text_columns (m.mark_text h (ordered_item last))) ≤ columns)
+    → (n : ℕ) (z : ℤ) → FitsSigned w64 z → first ≤ℤ z → Reaches z n last
+    → MarksFit m n (Items (Number z) columns least)
+numbers_fit m steady first last columns least low high ends zero z fits above reaches = tt
+numbers_fit m steady first last columns least low high ends (suc n) z fits above reaches = (
+  (λ h. omega (
+    arith,
+    ends h,
+    steady.ends_are_widest h first z last low high above (up_to_last z last n fits reaches),
+  )),
+  numbers_fit m steady first last columns least low high ends n (number_after z 1) (number_fits z 1)
+      (next_above first z fits above) (next_reaches z last n fits reaches),
+)
 
--- filled up to where text wraps, where it isn't wider
-filled_fits : {S : Type 0} (laws : TextLaws S) (wrap width : ℕ) (padding : Option S) (line : List (Item S))
-    → wrap ≤ width → line_columns line ≤ width → line_columns (padded wrap padding line) ≤ width
-filled_fits laws wrap width None line narrow fits = fits
-filled_fits {S = S} laws wrap width (Some tag) line narrow fits = ⊎_elim past short (cases_lt wrap (line_columns line))
-  where
-    past : wrap < line_columns line → line_columns (padded wrap (Some tag) line) ≤ width
-    past wide =
-        let none : wrap - line_columns line ≡ 0 = omega (arith, wide) in
-        subst (λ n. line_columns (line ++ replicate n (character 0x20 tag)) ≤ width) (sym none)
-        (subst (λ l. line_columns l ≤ width) (sym (append-nil line)) fits)
+-- ---- steps
 
-    short : line_columns line ≤ wrap → line_columns (padded wrap (Some tag) line) ≤ width
-    short fits_there = let same = laws.filled wrap tag line fits_there in omega (arith, same, narrow)
+-- No character overflows, and what is laid is within its renderer.
+pub record AreSound {H A : Type 0} (p : Parts H A) : Type 0 where
+  pub kept : AreKeptWithin p
 
-pub lines_added : {S : Type 0} (laws : TextLaws S) (m : Measure) (tag fill : S) (lines : List (List (Item S)))
-    (b : Laid S) → IsKept m → All (FitsIn m.width) lines → IsWithin m b
-    → IsWithin m (add_text_lines m tag fill lines b)
-lines_added laws m tag fill [] b kept fit within = within
-lines_added laws m tag fill (line ∷ lines) b kept fit within =
-    lines_added laws m tag fill lines (add_text_line m tag fill b line) kept
-    (All-tail (FitsIn m.width) line lines fit)
-    (line_added laws m tag (has_text line) (padded m.wrap_width (padding m fill) line) b
-    (filled_fits laws m.wrap_width m.width (padding m fill) line kept.wraps_within
-    (All-head (FitsIn m.width) line lines fit)) within)
+-- What was within the width still is, and the next value stands so.
+abbrev pub Kept : {H A : Type 0} → (LayoutState H A → Type 0) → LayoutState H A → LayoutState H A → Type 0
+Kept Q old new = PartsStayWithin old.parts new.parts × Q new
 
-texts_added : {S : Type 0} (laws : TextLaws S) (m : Measure) (tag fill : S) (lines : List (List (Item S))) (b : Laid S)
-    → IsKept m → All (FitsIn m.wrap_width) lines → IsWithin m b → IsWithin m (add_text_lines m tag fill lines b)
-texts_added laws m tag fill [] b kept fit within = within
-texts_added laws m tag fill (line ∷ lines) b kept fit within =
-    let filled = padded_fits laws m.wrap_width (padding m fill) line (All-head (FitsIn m.wrap_width) line lines fit) in
-    texts_added laws m tag fill lines (add_text_line m tag fill b line) kept
-    (All-tail (FitsIn m.wrap_width) line lines fit)
-    (line_added laws m tag (has_text line) (padded m.wrap_width (padding m fill) line) b
-    (omega (arith, filled, kept.wraps_within)) within)
+abbrev pub Steps : {H A : Type 0} → (P Q : LayoutState H A → Type 0) → Step H A → Type 0
+Steps {H} {A} P Q f = (x : LayoutState H A) → AreSound x.parts → P x → IfSome (f x) (Kept Q x)
 
-source_less : {S : Type 0} (width : ℕ) (b : Block S) → IsTextWithin width b → IsTextWithin width (without_source b)
-source_less width b h = record { same_width = h.same_width; no_overflow = h.no_overflow; lines = h.lines }
+-- The next value stands outside of tables, and the list around says this.
+abbrev pub At : {H A : Type 0} → Bool → Around → LayoutState H A → Type 0
+At in_cell a x = (x.around ≡ a) × (x.table ≡ outside in_cell)
 
-text_lines_fit : {S : Type 0} (laws : TextLaws S) (width : ℕ) (source : Block S) → IsTextWithin width source
-    → IfSome (laid_text source) (λ laid. All (FitsIn width) laid.1)
-text_lines_fit {S = S} laws width source h =
-    chained (λ taken. IsTextWithin width taken.1) (λ laid. All (FitsIn width) laid.1) lines_behind
-    (fragments_taken source)
-    (λ taken inside. mapped (λ lines. All (FitsIn width) lines) (λ laid. All (FitsIn width) laid.1)
-    (λ (lines : List (List (Item S))). (taken.0, lines)) (ended_lines taken.1) (λ lines fit. fit)
-    (known (λ lines. All (FitsIn width) lines) (ended_lines taken.1)
-    (λ lines is. laws.lines width taken.1 lines inside is)))
-    (mapped (IsTextWithin width) (λ taken. IsTextWithin width taken.1)
-    (λ (e : Block S). (names_of e.source, without_source e)) (ended source) (λ e inside. source_less width e inside)
-    (known (IsTextWithin width) (ended source) (λ e is. laws.ended width source e h is)))
+abbrev pub Keeps : {H A : Type 0} → (from to : Around) → Step H A → Type 0
+Keeps {H} {A} from to f = (in_cell : Bool) → Steps (At in_cell from) (At in_cell to) f
 
-flushed_of : {S : Type 0} (laws : TextLaws S) (m : Measure) (tag : S) (running : Option (Running S)) (b : Laid S)
-    → IsKept m → IfSome running (RunsWithin m.wrap_width) → IsWithin m b
-    → IfSome (flush_of m tag running b) (IsWithin m)
-flushed_of laws m tag None b kept runs within = within
-flushed_of {S = S} laws m tag (Some r) b kept runs within =
-    mapped (λ laid. All (FitsIn m.wrap_width) laid.1) (IsWithin m) (text_laid m tag r.fill b) (laid_text r.text)
-    (λ laid fit. let put = texts_added laws m tag r.fill laid.1 b kept fit within in
-    record { lines = put.lines; running = put.running; hanging = put.hanging })
-    (text_lines_fit laws m.wrap_width r.text runs)
-
-pub flushed : {S : Type 0} (laws : TextLaws S) (m : Measure) (tag : S) (b : Laid S) → IsKept m → IsWithin m b
-    → IfSome (flush m tag b) (IsWithin m)
-flushed laws m tag b kept within =
-    flushed_of laws m tag b.running (without_running b) kept within.running
-    (record { lines = within.lines; running = tt; hanging = within.hanging })
-
--- ---- blocks
-
-pub nothing_within : {S : Type 0} (m : Measure) → IsWithin {S = S} m nothing_laid
-nothing_within m = record {
-  lines = All-nil (Fits m.width);
-  running = tt;
-  hanging = All-nil (λ h. CellFits h.cell);
+pub stays_on : {H A : Type 0} (p q r : Parts H A) → PartsStayWithin p q → PartsStayWithin q r → PartsStayWithin p r
+stays_on p q r before trailing = record {
+  current = (trailing.current.0, (trailing.current.1.0 ∙ before.current.1.0, trailing.current.1.1 ∙ before.current.1.1));
+  below = trailing.below ∙ before.below;
+  kept = trailing.kept;
 }
 
-started_within : {S : Type 0} (m : Measure) (b : Laid S) → IsWithin m b → IsWithin m (started b)
-started_within m b within = record { lines = within.lines; running = within.running; hanging = within.hanging }
+pub stays : {H A : Type 0} (p : Parts H A) → AreKeptWithin p → PartsStayWithin p p
+stays p kept = record { current = (kept.current, (refl, refl)); below = refl; kept = kept }
 
-emptied_within : {S : Type 0} (laws : TextLaws S) (m : Measure) (tag : S) (b : Laid S) → IsWithin m b
-    → IsWithin m (behind_empty_line m tag b)
-emptied_within laws m tag b within =
-    started_within m (add_line m tag false [] b) (line_added laws m tag false [] b (omega arith) within)
+pub sound_on : {H A : Type 0} (p q : Parts H A) → AreSound p → PartsStayWithin p q → AreSound q
+sound_on p q sound inside =
+    record { kept = inside.kept }
 
-pub empty_line_added : {S : Type 0} (laws : TextLaws S) (m : Measure) (tag : S) (b : Laid S) → IsKept m → IsWithin m b
-    → IfSome (add_empty_line m tag b) (IsWithin m)
-empty_line_added laws m tag b kept within =
-    mapped (IsWithin m) (IsWithin m) (behind_empty_line m tag) (flush m tag b)
-    (λ x inside. emptied_within laws m tag x inside) (flushed laws m tag b kept within)
+pub weaker : {X : Type 0} (P Q : X → Type 0) (o : Option X) → ((x : X) → P x → Q x) → IfSome o P → IfSome o Q
+weaker P Q None h given = tt
+weaker P Q (Some x) h given = h x given
 
-parted_within : {S : Type 0} (laws : TextLaws S) (m : Measure) (tag : S) (b : Laid S) → IsWithin m b
-    → IsWithin m (parted m tag b)
-parted_within laws m tag b within = by_content (has_content b.lines)
+pub onward : {H A : Type 0} (Q R : LayoutState H A → Type 0) (g : Step H A) (x : LayoutState H A) (o : Option (LayoutState H A))
+    → AreSound x.parts → Steps Q R g → IfSome o (Kept Q x) → IfSome (option_and_then g o) (Kept R x)
+onward Q R g x o sound does given = chained (Kept Q x) (Kept R x) g o
+    (λ y k. weaker (Kept R y) (Kept R x) (g y) (λ z j. (stays_on x.parts y.parts z.parts k.0 j.0, j.1))
+    (does y (sound_on x.parts y.parts sound k.0) k.1)) given
+
+pub steps_by : {H A : Type 0} (P : LayoutState H A → Type 0) → Steps P P Some
+steps_by P x sound at = (stays x.parts sound.kept, at)
+
+pub steps_through : {H A : Type 0} (P Q R : LayoutState H A → Type 0) (f g : Step H A) → Steps P Q f → Steps Q R g
+    → Steps P R (in_turn f g)
+steps_through P Q R f g one other x sound at = onward Q R g x (f x) sound other (one x sound at)
+
+pub for_steps : {X H A : Type 0} (P : LayoutState H A → Type 0) (o : Option X) (f : X → Step H A)
+    → ((x : X) → Steps P P (f x)) → Steps P P (for_some o f)
+for_steps P None f each = steps_by P
+for_steps P (Some x) f each = each x
+
+pub keeps_by : {H A : Type 0} (a : Around) → Keeps {H = H} {A = A} a a Some
+keeps_by a in_cell = steps_by (At in_cell a)
+
+pub keeps_through : {H A : Type 0} (from mid to : Around) (f g : Step H A) → Keeps from mid f → Keeps mid to g
+    → Keeps from to (in_turn f g)
+keeps_through from mid to f g one other in_cell =
+    steps_through (At in_cell from) (At in_cell mid) (At in_cell to) f g (one in_cell) (other in_cell)
+
+keeps_around : {H A : Type 0} (from to : Around) → Keeps {H = H} {A = A} from to (goes_on to)
+keeps_around from to in_cell x sound at = (stays x.parts sound.kept, (refl, at.1))
+
+for_keeps : {X H A : Type 0} (a : Around) (o : Option X) (f : X → Step H A) → ((x : X) → Keeps a a (f x))
+    → Keeps a a (for_some o f)
+for_keeps a o f each in_cell = for_steps (At in_cell a) o f (λ x. each x in_cell)
+
+-- the current renderer by another one that stays as wide
+current_stays : {H A : Type 0} (p : Parts H A) (s : Sub H A) → AreKeptWithin p → StaysWithin p.current s
+    → PartsStayWithin p (record p { current = s })
+current_stays p s kept inside =
+    record { current = inside; below = refl; kept = record { current = inside.0; below = kept.below } }
+
+-- a call that fits where it is made
+pub says_there : {H A : Type 0} {m : Marking H A} (laws : WidthLaws m) (Q : LayoutState H A → Type 0) (c : Call (Sub H A))
+    (x : LayoutState H A) → AreSound x.parts → CallFits c x.parts.current
+    → ((s : Sub H A) → StaysWithin x.parts.current s → step m c x.parts.current ≡ Some s → Q (in_current x s))
+    → IfSome (says m c x) (Kept Q x)
+unfolding says
+says_there {H} {A} {m} laws Q c x sound fits trailing =
+    mapped (λ (s : Sub H A). StaysWithin x.parts.current s × Q (in_current x s)) (Kept Q x) (in_current x)
+    (step m c x.parts.current) (λ s h. (current_stays x.parts s sound.kept h.0, h.1))
+    (known (λ (s : Sub H A). StaysWithin x.parts.current s × Q (in_current x s)) (step m c x.parts.current)
+    (λ s does. both s does (laws.does c x.parts.current s sound.kept.current fits does)))
   where
-    by_content : (t : Bool) → IsWithin m (if t then behind_empty_line m tag b else started b)
-    by_content true = emptied_within laws m tag b within
-    by_content false = started_within m b within
+    both : (s : Sub H A) → step m c x.parts.current ≡ Some s → StaysWithin x.parts.current s
+        → StaysWithin x.parts.current s × Q (in_current x s)
+    both s does inside = (inside, trailing s inside does)
 
-pub block_started : {S : Type 0} (laws : TextLaws S) (m : Measure) (tag : S) (b : Laid S) → IsKept m → IsWithin m b
-    → IfSome (start_block m tag b) (IsWithin m)
-block_started laws m tag b kept within =
-    mapped (IsWithin m) (IsWithin m) (parted m tag) (flush m tag b) (λ x inside. parted_within laws m tag x inside)
-    (flushed laws m tag b kept within)
+pub says_steps : {H A : Type 0} {m : Marking H A} (laws : WidthLaws m) (P Q : LayoutState H A → Type 0)
+    (c : Call (Sub H A)) → ((x : LayoutState H A) → P x → CallFits c x.parts.current)
+    → ((x : LayoutState H A) (s : Sub H A) → P x → StaysWithin x.parts.current s
+    → step m c x.parts.current ≡ Some s → Q (in_current x s))
+    → Steps P Q (says m c)
+says_steps laws P Q c fits trailing x sound at =
+    says_there laws Q c x sound (fits x at) (λ s inside does. trailing x s at inside does)
 
-pub none_hang : {S : Type 0} (m : Measure) (b : Laid S) → IsWithin m b → IsWithin m (without_hanging b)
-none_hang m b within =
-    record { lines = within.lines; running = within.running; hanging = All-nil (λ h. CellFits h.cell) }
+pub says_keeps : {H A : Type 0} {m : Marking H A} (laws : WidthLaws m) (a : Around) (c : Call (Sub H A))
+    → ((s : Sub H A) → CallFits c s) → Keeps a a (says m c)
+says_keeps laws a c fits in_cell = says_steps laws (At in_cell a) (At in_cell a) c
+    (λ x at. fits x.parts.current) (λ x s at inside does. at)
 
-pub table_started : {S : Type 0} (laws : TextLaws S) (m : Measure) (tag : S) (b : Laid S) → IsKept m → IsWithin m b
-    → IfSome (start_table m tag b) (IsWithin m)
-table_started laws m tag b kept within =
-    mapped (IsWithin m) (IsWithin m) without_hanging (start_block m tag b) (λ x inside. none_hang m x inside)
-    (block_started laws m tag b kept within)
+link_keeps : {H A : Type 0} {m : Marking H A} (laws : WidthLaws m) (a : Around) (target : List ℕ)
+    → Keeps a a (begins_link m target)
+unfolding begins_link
+link_keeps {m = m} laws a target in_cell x sound at =
+    mapped (PartsStayWithin x.parts) (Kept (At in_cell a) x) (in_parts x) (begin_part_link m target x.parts)
+    (λ p inside. (inside, at))
+    (known (PartsStayWithin x.parts) (begin_part_link m target x.parts)
+    (λ p does. laws.link_begins target x.parts p sound.kept does))
 
-pub block_ended : {S : Type 0} (m : Measure) (b : Laid S) → IsWithin m b → IsWithin m (end_block b)
-block_ended m b within = record { lines = within.lines; running = within.running; hanging = within.hanging }
+link_end_keeps : {H A : Type 0} {m : Marking H A} (laws : WidthLaws m) (a : Around) → Keeps a a (ends_link m)
+unfolding ends_link
+link_end_keeps {m = m} laws a in_cell x sound at =
+    mapped (PartsStayWithin x.parts) (Kept (At in_cell a) x) (in_parts x) (finish_part_link m x.parts)
+    (λ p inside. (inside, at))
+    (known (PartsStayWithin x.parts) (finish_part_link m x.parts)
+    (λ p does. laws.link_ends x.parts p sound.kept does))
 
-pub awaited_started : {S : Type 0} (laws : TextLaws S) (m : Measure) (tag : S) (b : Laid S) → IsKept m → IsWithin m b
-    → IfSome (start_awaited m tag b) (IsWithin m)
-awaited_started laws m tag b kept within = by_end b.awaits
+-- ---- parts
+
+-- a part after so many columns of another renderer
+pub record IsPart {H A : Type 0} (columns : ℕ) (outer part : LayoutState H A) : Type 0 where
+  pub sound : AreSound part.parts
+  pub flows : part.around ≡ Flow
+  pub table : part.table ≡ outer.table
+  pub below : part.parts.below ≡ outer.parts.below
+  pub fits : columns + part.parts.current.width ≤ outer.parts.current.width
+
+part_is : {H A : Type 0} {m : Marking H A} (laws : WidthLaws m) (columns width : ℕ) (x : LayoutState H A)
+    → AreSound x.parts → columns + width ≤ x.parts.current.width → IsPart columns x (in_part m width x)
+unfolding in_part
+part_is laws columns width x sound fits = record {
+  sound = record {
+    kept = record { current = laws.part width x.parts.current sound.kept.current; below = sound.kept.below };
+  };
+  flows = refl;
+  table = refl;
+  below = refl;
+  fits = fits;
+}
+
+part_begins : {H A : Type 0} {m : Marking H A} (laws : WidthLaws m) (columns least : ℕ) (x : LayoutState H A)
+    → AreSound x.parts → IfSome (part_begun m columns least x) (IsPart columns x)
+unfolding part_begun
+part_begins {m = m} laws columns least x sound =
+    mapped (λ (n : ℕ). (columns + n ≡ x.parts.current.width) × ((1 ≤ n) × (least - columns ≤ n)))
+    (IsPart columns x) (λ width. in_part m width x) (room_after columns (least - columns) x.parts.current)
+    (λ width h. part_is laws columns width x sound (omega (arith, h.0)))
+    (laws.trailing columns (least - columns) x.parts.current sound.kept.current)
+
+part_stays : {H A : Type 0} (columns : ℕ) (in_cell : Bool) (x y z : LayoutState H A) → x.table ≡ outside in_cell
+    → IsPart columns x y → Kept (At in_cell Flow) y z → IsPart columns x z
+part_stays columns in_cell x y z is part inside = record {
+  sound = sound_on y.parts z.parts part.sound inside.0;
+  flows = inside.1.0;
+  table = inside.1.1 ∙ sym is;
+  below = inside.0.below ∙ part.below;
+  fits = omega (arith, part.fits, inside.0.current.1.0);
+}
+
+part_ends : {H A : Type 0} {m : Marking H A} (laws : WidthLaws m) (columns : ℕ) (first further : List ℕ)
+    (in_cell : Bool) (x z : LayoutState H A) → text_columns first ≤ columns → text_columns further ≤ columns
+    → AreSound x.parts → x.table ≡ outside in_cell → IsPart columns x z
+    → IfSome (part_ended m x.parts.current first further z) (Kept (At in_cell Flow) x)
+unfolding part_ended says
+part_ends {m = m} laws columns first further in_cell x z one other sound is part =
+    mapped (StaysWithin x.parts.current) (Kept (At in_cell Flow) x) (in_current (in_current z x.parts.current))
+    (step m (calls.adds_block z.parts.current first further) x.parts.current)
+    (λ s inside. (
+      record {
+        current = inside;
+        below = part.below;
+        kept = record { current = inside.0; below = part.sound.kept.below };
+      },
+      (part.flows, part.table ∙ is),
+    ))
+    (known (StaysWithin x.parts.current) (step m (calls.adds_block z.parts.current first further) x.parts.current)
+    (λ s does. laws.does (calls.adds_block z.parts.current first further) x.parts.current s sound.kept.current
+    (part.sound.kept.current, (omega (arith, one, part.fits), omega (arith, other, part.fits))) does))
+
+pub prefix_keeps : {H A : Type 0} {m : Marking H A} (laws : WidthLaws m) (columns : ℕ) (first further : List ℕ)
+    (least : ℕ) (inside : Step H A) (in_cell : Bool) (x : LayoutState H A) → text_columns first ≤ columns
+    → text_columns further ≤ columns → Keeps Flow Flow inside → AreSound x.parts → x.table ≡ outside in_cell
+    → IfSome (after_prefix m columns first further least inside x) (Kept (At in_cell Flow) x)
+prefix_keeps {m = m} laws columns first further least inside in_cell x one other keeps sound is =
+    chained (IsPart columns x) (Kept (At in_cell Flow) x)
+    (in_turn inside (part_ended m x.parts.current first further)) (part_begun m columns least x)
+    (λ y part. chained (IsPart columns x) (Kept (At in_cell Flow) x) (part_ended m x.parts.current first further)
+    (inside y) (λ z stood. part_ends laws columns first further in_cell x z one other sound is stood)
+    (weaker (Kept (At in_cell Flow) y) (IsPart columns x) (inside y)
+    (λ z k. part_stays columns in_cell x y z is part k)
+    (keeps in_cell y part.sound (part.flows, part.table ∙ is))))
+    (part_begins laws columns least x sound)
+
+pub mark_keeps : {H A : Type 0} {m : Marking H A} (laws : WidthLaws m) (kind : Mark) (least : ℕ) (inside : Step H A)
+    → Keeps Flow Flow inside → Keeps Flow Flow (after_mark m kind least inside)
+mark_keeps {m = m} laws kind least inside keeps in_cell x sound at =
+    prefix_keeps laws (text_columns (mark_of m kind x)) (mark_of m kind x) (mark_of m kind x) least inside in_cell x
+    (omega arith) (omega arith) keeps sound at.1
+
+-- what stands in a value, of so many values
+abbrev pub KeepsAll : {H A : Type 0} → Marking H A → ℕ → Step H A → Type 0
+KeepsAll m items f = (a : Around) → MarksFit m items a → Keeps a (around_after items a) f
+
+pub keeps_flow : {H A : Type 0} (m : Marking H A) (items : ℕ) (f : Step H A) → KeepsAll m items f → Keeps Flow Flow f
+keeps_flow m items f keeps = subst (λ a. Keeps Flow a f) (flow_after items) (keeps Flow (flow_fits m items))
+
+-- ---- lists
+
+-- a number of 64 bits
+abbrev pub IsFirst : ItemMark → Type 0
+IsFirst Bullet = Unit {0}
+IsFirst (Number z) = FitsSigned w64 z
+
+-- the marks of a list that begins with one
+marks_fit : {H A : Type 0} {m : Marking H A} (laws : WidthLaws m) (first : ItemMark) (items least : ℕ)
+    (x : LayoutState H A) → IsFirst first
+    → MarksFit m items (Items first (item_columns m first (last_mark first items) x) least)
+unfolding mark_of
+marks_fit {m = m} laws Bullet items least x fits = bullets_fit m _ least items
+    (λ h. omega (arith, ap text_columns (laws.steady.alone h x.parts.current.held unordered_item tt)))
+marks_fit {m = m} laws (Number z) items least x fits =
+    let last : ℤ = number_after z (items - 1) in
+    numbers_fit m laws.steady z last _ least fits (number_fits z (items - 1))
+    (λ h. omega (
+      arith,
+      ap text_columns (laws.steady.alone h x.parts.current.held (ordered_item z) tt),
+      ap text_columns (laws.steady.alone h x.parts.current.held (ordered_item last) tt),
+    ))
+    items z fits (omega (arith, ints)) (first_reaches z items fits)
+
+pub list_keeps : {H A : Type 0} {m : Marking H A} (laws : WidthLaws m) (first : ItemMark) (items least : ℕ)
+    (inside : Step H A) → IsFirst first → KeepsAll m items inside
+    → Keeps Flow Flow (listed m first items least inside)
+list_keeps {m = m} laws first items least inside fits keeps in_cell x sound at =
+    let a : Around = Items first (item_columns m first (last_mark first items) x) least in
+    keeps_through Flow a Flow (goes_on a) (in_turn inside (goes_on Flow)) (keeps_around Flow a)
+    (keeps_through a (around_after items a) Flow inside (goes_on Flow)
+    (keeps a (marks_fit laws first items least x fits)) (keeps_around (around_after items a) Flow))
+    in_cell x sound at
+
+mark_within : {H A : Type 0} (m : Marking H A) (mark : ItemMark) (columns : ℕ) (x : LayoutState H A)
+    → ((h : H) → text_columns (m.mark_text h (item_mark mark)) ≤ columns)
+    → text_columns (mark_of m (item_mark mark) x) ≤ columns
+unfolding mark_of
+mark_within m mark columns x fits = fits x.parts.current.held
+
+pub placed_keeps : {H A : Type 0} {m : Marking H A} (laws : WidthLaws m) (a : Around) (inside : Step H A)
+    (in_cell : Bool) (x : LayoutState H A) → MarkFits m a → Keeps Flow Flow inside → AreSound x.parts → At in_cell a x
+    → IfSome (placed m a inside x) (Kept (At in_cell (next_around a)) x)
+placed_keeps laws Flow inside in_cell x fits keeps sound at = keeps in_cell x sound at
+placed_keeps {m = m} laws (Items mark columns least) inside in_cell x fits keeps sound at =
+    onward (At in_cell Flow) (At in_cell (Items (next_mark mark) columns least))
+    (goes_on (Items (next_mark mark) columns least)) x
+    (after_prefix m columns (padded columns (mark_of m (item_mark mark) x)) (spaces columns) least inside x) sound
+    (keeps_around Flow (Items (next_mark mark) columns least) in_cell)
+    (prefix_keeps laws columns (padded columns (mark_of m (item_mark mark) x)) (spaces columns) least inside in_cell x
+    (padded_fits columns (mark_of m (item_mark mark) x) (mark_within m mark columns x fits)) (spaces_fit columns)
+    keeps sound at.1)
+
+-- ---- a value
+
+pub begins_keeps : {H A : Type 0} {m : Marking H A} (laws : WidthLaws m) (info : RenderInfo)
+    → Keeps Flow Flow (begins m info)
+unfolding begins
+begins_keeps laws (infos.Text cs) = says_keeps laws Flow (calls.adds_text cs) (λ s. tt)
+begins_keeps laws (infos.Image source title) = says_keeps laws Flow (calls.adds_image source title) (λ s. tt)
+begins_keeps laws infos.Break = says_keeps laws Flow calls.breaks_line (λ s. tt)
+begins_keeps laws (infos.Link target) = link_keeps laws Flow target
+begins_keeps laws infos.Emphasis = says_keeps laws Flow (calls.starts_mark marks.emphasis_start) (λ s. tt)
+begins_keeps laws infos.Strong = says_keeps laws Flow (calls.starts_mark marks.strong_start) (λ s. tt)
+begins_keeps laws infos.Strikeout = says_keeps laws Flow calls.starts_strikeout (λ s. tt)
+begins_keeps laws infos.Code = says_keeps laws Flow (calls.starts_mark marks.code_start) (λ s. tt)
+begins_keeps laws infos.Superscript = says_keeps laws Flow (calls.starts_mark marks.superscript_start) (λ s. tt)
+begins_keeps laws infos.Block = says_keeps laws Flow calls.starts_block (λ s. tt)
+begins_keeps laws infos.Division = says_keeps laws Flow calls.ends_line (λ s. tt)
+begins_keeps laws (infos.Heading level) = says_keeps laws Flow calls.starts_block (λ s. tt)
+begins_keeps laws infos.Quote = says_keeps laws Flow calls.starts_block (λ s. tt)
+begins_keeps {m = m} laws infos.Preformatted =
+    keeps_through Flow Flow Flow (says m calls.starts_block) (says m calls.starts_preformat)
+    (says_keeps laws Flow calls.starts_block (λ s. tt)) (says_keeps laws Flow calls.starts_preformat (λ s. tt))
+begins_keeps laws infos.Bullets = says_keeps laws Flow calls.starts_block (λ s. tt)
+begins_keeps laws (infos.Numbers first) = says_keeps laws Flow calls.starts_block (λ s. tt)
+begins_keeps laws infos.Descriptions = says_keeps laws Flow calls.starts_block (λ s. tt)
+begins_keeps {m = m} laws infos.Term =
+    keeps_through Flow Flow Flow (says m calls.ends_line) (says m (calls.starts_mark marks.emphasis_start))
+    (says_keeps laws Flow calls.ends_line (λ s. tt))
+    (says_keeps laws Flow (calls.starts_mark marks.emphasis_start) (λ s. tt))
+begins_keeps laws infos.Nothing = keeps_by Flow
+begins_keeps laws infos.Container = keeps_by Flow
+begins_keeps laws infos.Details = keeps_by Flow
+begins_keeps laws infos.Table = keeps_by Flow
+begins_keeps laws infos.TableGroup = keeps_by Flow
+begins_keeps laws infos.TableRow = keeps_by Flow
+begins_keeps laws (infos.TableCell columns taken) = keeps_by Flow
+
+pub ends_keeps : {H A : Type 0} {m : Marking H A} (laws : WidthLaws m) (info : RenderInfo)
+    → Keeps Flow Flow (ends m info)
+unfolding ends
+ends_keeps laws (infos.Link target) = link_end_keeps laws Flow
+ends_keeps laws infos.Emphasis = says_keeps laws Flow (calls.ends_mark marks.emphasis_end) (λ s. tt)
+ends_keeps laws infos.Strong = says_keeps laws Flow (calls.ends_mark marks.strong_end) (λ s. tt)
+ends_keeps laws infos.Strikeout = says_keeps laws Flow calls.ends_strikeout (λ s. tt)
+ends_keeps laws infos.Code = says_keeps laws Flow (calls.ends_mark marks.code_end) (λ s. tt)
+ends_keeps laws infos.Superscript = says_keeps laws Flow (calls.ends_mark marks.superscript_end) (λ s. tt)
+ends_keeps laws infos.Block = says_keeps laws Flow calls.ends_block (λ s. tt)
+ends_keeps laws infos.Division = says_keeps laws Flow calls.ends_line (λ s. tt)
+ends_keeps laws (infos.Heading level) = says_keeps laws Flow calls.ends_block (λ s. tt)
+ends_keeps laws infos.Quote = says_keeps laws Flow calls.ends_block (λ s. tt)
+ends_keeps {m = m} laws infos.Preformatted =
+    keeps_through Flow Flow Flow (says m calls.ends_preformat) (says m calls.ends_block)
+    (says_keeps laws Flow calls.ends_preformat (λ s. tt)) (says_keeps laws Flow calls.ends_block (λ s. tt))
+ends_keeps {m = m} laws infos.Term =
+    keeps_through Flow Flow Flow (says m (calls.ends_mark marks.emphasis_end)) (says m calls.ends_line)
+    (says_keeps laws Flow (calls.ends_mark marks.emphasis_end) (λ s. tt))
+    (says_keeps laws Flow calls.ends_line (λ s. tt))
+ends_keeps laws infos.Nothing = keeps_by Flow
+ends_keeps laws (infos.Text cs) = keeps_by Flow
+ends_keeps laws (infos.Image source title) = keeps_by Flow
+ends_keeps laws infos.Break = keeps_by Flow
+ends_keeps laws infos.Container = keeps_by Flow
+ends_keeps laws infos.Bullets = keeps_by Flow
+ends_keeps laws (infos.Numbers first) = keeps_by Flow
+ends_keeps laws infos.Descriptions = keeps_by Flow
+ends_keeps laws infos.Details = keeps_by Flow
+ends_keeps laws infos.Table = keeps_by Flow
+ends_keeps laws infos.TableGroup = keeps_by Flow
+ends_keeps laws infos.TableRow = keeps_by Flow
+ends_keeps laws (infos.TableCell columns taken) = keeps_by Flow
+
+pub named_keeps : {H A : Type 0} {m : Marking H A} (laws : WidthLaws m) (a : Around) (fragment : Option (List ℕ))
+    → Keeps a a (named m fragment)
+named_keeps {m = m} laws a fragment = for_keeps a fragment (λ name. says m (calls.starts_fragment name))
+    (λ name. says_keeps laws a (calls.starts_fragment name) (λ s. tt))
+
+pub either_keeps : {H A : Type 0} (a : Around) (t : Bool) (f g : Step H A) → Keeps a a f → Keeps a a g
+    → Keeps a a (if t then f else g)
+either_keeps a true f g one other = one
+either_keeps a false f g one other = other
+
+pub leading_keeps : {H A : Type 0} {m : Marking H A} (laws : WidthLaws m) (head : Head)
+    → Keeps Flow Flow (leading m head)
+unfolding leading
+leading_keeps {m = m} laws head = either_keeps Flow (fragment_leads head.info) (named m head.fragment) Some
+    (named_keeps laws Flow head.fragment) (keeps_by Flow)
+
+pub following_keeps : {H A : Type 0} {m : Marking H A} (laws : WidthLaws m) (a : Around) (head : Head)
+    → Keeps a a (following m head)
+unfolding following
+following_keeps {m = m} laws a head = either_keeps a (fragment_leads head.info) Some (named m head.fragment)
+    (keeps_by a) (named_keeps laws a head.fragment)
+
+-- ---- styles
+
+-- Calls of styles leave it as it is where the next value stands.
+pub record AreCalm {H A : Type 0} (m : Marking H A) (P : LayoutState H A → Type 0) : Type 0 where
+  pub colour : (kind : Mark) → Steps P P (says m (calls.starts_colour kind))
+  pub colour_end : (kind : Mark) → Steps P P (says m (calls.ends_colour kind))
+  pub mode : (mode : WhiteSpace) → Steps P P (says m (calls.starts_mode mode))
+  pub mode_end : Steps P P (says m calls.ends_mode)
+
+look_begins : {H A : Type 0} {m : Marking H A} (P : LayoutState H A → Type 0) → AreCalm m P → (s : RenderStyle)
+    → Steps P P (style_begins m s)
+unfolding style_begins
+look_begins {m = m} P calm s = steps_through P P P _ _
+    (for_steps P s.colour (λ c. says m (calls.starts_colour (marks.colour_start c)))
+    (λ c. calm.colour (marks.colour_start c)))
+    (steps_through P P P _ _
+    (for_steps P s.background (λ c. says m (calls.starts_colour (marks.background_start c)))
+    (λ c. calm.colour (marks.background_start c)))
+    (for_steps P s.white_space (λ mode. says m (calls.starts_mode mode)) (λ mode. calm.mode mode)))
+
+look_ends : {H A : Type 0} {m : Marking H A} (P : LayoutState H A → Type 0) → AreCalm m P → (s : RenderStyle)
+    → Steps P P (style_ends m s)
+unfolding style_ends
+look_ends {m = m} P calm s = steps_through P P P _ _
+    (for_steps P s.white_space (λ mode. says m calls.ends_mode) (λ mode. calm.mode_end))
+    (steps_through P P P _ _
+    (for_steps P s.background (λ c. says m (calls.ends_colour marks.background_end))
+    (λ c. calm.colour_end marks.background_end))
+    (for_steps P s.colour (λ c. says m (calls.ends_colour marks.colour_end))
+    (λ c. calm.colour_end marks.colour_end)))
+
+pub styled_steps : {H A : Type 0} {m : Marking H A} (P Q : LayoutState H A → Type 0) → AreCalm m P → AreCalm m Q
+    → (s : RenderStyle) (inside : Step H A) → Steps P Q inside → Steps P Q (styled m s inside)
+styled_steps {m = m} P Q calm calm_after s inside does = steps_through P P Q (style_begins m s) _
+    (look_begins P calm s) (steps_through P Q Q inside (style_ends m s) does (look_ends Q calm_after s))
+
+pub styled_keeps : {H A : Type 0} {m : Marking H A} (laws : WidthLaws m) (s : RenderStyle) (inside : Step H A)
+    → Keeps Flow Flow inside → Keeps Flow Flow (styled m s inside)
+styled_keeps {H} {A} {m} laws s inside keeps in_cell =
+    styled_steps (At in_cell Flow) (At in_cell Flow) calm calm s inside (keeps in_cell)
   where
-    by_end : (t : Bool) → IfSome (if t then start_block m tag b else Some b) (IsWithin m)
-    by_end true = block_started laws m tag b kept within
-    by_end false = within
-
--- ---- text
-
-running_put : {S : Type 0} (m : Measure) (b : Laid S) (r : Running S) → IsWithin m b → RunsWithin m.wrap_width r
-    → IsWithin m (with_running b r)
-running_put m b r within runs = record { lines = within.lines; running = runs; hanging = within.hanging }
-
-running_or_empty : {S : Type 0} (laws : TextLaws S) (m : Measure) (tag : S) (running : Option (Running S)) → IsKept m
-    → IfSome running (RunsWithin m.wrap_width) → RunsWithin m.wrap_width (running_or_new m tag running)
-running_or_empty {S = S} laws m tag None kept runs =
-    subst (λ o. IsTextWithin {S = S} m.wrap_width (empty_block m.wrap_width o None)) (sym kept.no_overflow)
-    (laws.empty m.wrap_width None)
-running_or_empty laws m tag (Some r) kept runs = runs
-
-ran_on : {S : Type 0} (laws : TextLaws S) (m : Measure) (tag : S) (mode : WhiteSpace) (cs : List ℕ) (main further : S)
-    (b : Laid S) → IsKept m → IsWithin m b → IfSome (run_on m tag mode cs main further b) (IsWithin m)
-ran_on laws m tag mode cs main further b kept within =
-    let r = running_or_new m tag b.running in
-    mapped (RunsWithin m.wrap_width) (IsWithin m) (with_running b)
-    (option_map (with_added mode cs r) (added mode cs main further r.text))
-    (λ x runs. running_put m b x within runs)
-    (mapped (IsTextWithin m.wrap_width) (RunsWithin m.wrap_width) (with_added mode cs r)
-    (added mode cs main further r.text) (λ x inside. inside)
-    (known (IsTextWithin m.wrap_width) (added mode cs main further r.text)
-    (λ x is. laws.added m.wrap_width mode cs main further r.text x
-    (running_or_empty laws m tag b.running kept within.running) is)))
-
-entered : {S : Type 0} (laws : TextLaws S) (m : Measure) (tag : S) (mode : WhiteSpace) (cs : List ℕ) (b : Laid S)
-    → IsKept m → IsWithin m b → IfSome (enter_mode m tag mode cs b) (IsWithin m)
-entered laws m tag mode cs b kept within = by_mode (is_filled cs && runs_otherwise mode b.running)
-  where
-    by_mode : (t : Bool) → IfSome (if t then flush m tag b else Some b) (IsWithin m)
-    by_mode true = flushed laws m tag b kept within
-    by_mode false = within
-
-pub text_added : {S : Type 0} (laws : TextLaws S) (m : Measure) (tag : S) (mode : WhiteSpace) (cs : List ℕ)
-    (main further : S) (b : Laid S) → IsKept m → IsWithin m b
-    → IfSome (add_text m tag mode cs main further b) (IsWithin m)
-text_added laws m tag mode cs main further b kept within =
-    chained (IsWithin m) (IsWithin m) (run_on m tag mode cs main further) (enter_mode m tag mode cs b)
-    (λ x inside. ran_on laws m tag mode cs main further x kept inside) (entered laws m tag mode cs b kept within)
-
-pub marked : {S : Type 0} (laws : TextLaws S) (m : Measure) (tag : S) (name : List ℕ) (b : Laid S) → IsKept m
-    → IsWithin m b → IsWithin m (mark m tag name b)
-marked laws m tag name b kept within =
-    let r = running_or_new m tag b.running in
-    running_put m b (with_marker name r) within
-    (laws.marked m.wrap_width name r.text (running_or_empty laws m tag b.running kept within.running))
-
--- ---- a line break
-
-broken_within : {S : Type 0} (laws : TextLaws S) (m : Measure) (tag : S) (b : Laid S) (broke : Bool × Running S)
-    → IsKept m → IsWithin m b → RunsWithin m.wrap_width broke.1 → IfSome (broken_line m tag b broke) (IsWithin m)
-broken_within laws m tag b broke kept within runs = by_end broke.0
-  where
-    by_end : (t : Bool) → IfSome (if t then flush m tag (with_running b broke.1)
-        else add_empty_line m tag (with_running b broke.1)) (IsWithin m)
-    by_end true = flushed laws m tag (with_running b broke.1) kept (running_put m b broke.1 within runs)
-    by_end false = empty_line_added laws m tag (with_running b broke.1) kept (running_put m b broke.1 within runs)
-
-broke_of : {S : Type 0} (laws : TextLaws S) (m : Measure) (tag : S) (running : Option (Running S)) (b : Laid S)
-    → IsKept m → IfSome running (RunsWithin m.wrap_width) → IsWithin m b
-    → IfSome (break_of m tag running b) (IsWithin m)
-broke_of laws m tag None b kept runs within = empty_line_added laws m tag b kept within
-broke_of {S = S} laws m tag (Some r) b kept runs within =
-    chained (λ (broke : Bool × Running S). RunsWithin m.wrap_width broke.1) (IsWithin m) (broken_line m tag b)
-    (option_map (with_text_of r) (broken r.text)) (λ broke inside. broken_within laws m tag b broke kept within inside)
-    (mapped (λ (broke : Bool × Block S). IsTextWithin m.wrap_width broke.1)
-    (λ (broke : Bool × Running S). RunsWithin m.wrap_width broke.1) (with_text_of r) (broken r.text)
-    (λ broke inside. inside)
-    (mapped (IsTextWithin m.wrap_width) (λ (broke : Bool × Block S). IsTextWithin m.wrap_width broke.1)
-    (λ (e : Block S). (ends_in_columns (lines_in r.text.mode r.text.width r.text.source), e)) (ended r.text)
-    (λ e inside. inside)
-    (known (IsTextWithin m.wrap_width) (ended r.text) (λ e is. laws.ended m.wrap_width r.text e runs is))))
-
-pub line_broken : {S : Type 0} (laws : TextLaws S) (m : Measure) (tag : S) (b : Laid S) → IsKept m → IsWithin m b
-    → IfSome (break_line m tag b) (IsWithin m)
-line_broken laws m tag b kept within = broke_of laws m tag b.running b kept within.running within
+    calm : AreCalm {H = H} {A = A} m (At in_cell Flow)
+    calm = record {
+      colour = λ kind. says_keeps laws Flow (calls.starts_colour kind) (λ s. tt) in_cell;
+      colour_end = λ kind. says_keeps laws Flow (calls.ends_colour kind) (λ s. tt) in_cell;
+      mode = λ mode. says_keeps laws Flow (calls.starts_mode mode) (λ s. tt) in_cell;
+      mode_end = says_keeps laws Flow calls.ends_mode (λ s. tt) in_cell;
+    }

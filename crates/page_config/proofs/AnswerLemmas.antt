@@ -1,12 +1,11 @@
 -- Of equal values there is one answer at a width.
-use Rattle.std.proofs.Common.{◌≡◌, inl, inr, refl, sym, ap, ◌∙◌, arith, ℕ, ◌<◌, List}
-use Rattle.std.proofs.Common.{None, Some}
+use Rattle.std.proofs.Common.{◌≡◌, ◌∙◌, ◌<◌, List, None, Some, ap, arith, inl, inr, refl, sym, ℕ}
 use Rattle.std.specs.Prelude.{unwrap_or}
 use Rattle.html_render_tree.specs.PageLines.{Setting, page_lines}
 use Rattle.page_config.specs.PageAnswers.{IsAnswerOf, PageAnswer, fail, lines, too_narrow}
 use Rattle.render_values.specs.Values.{Values}
-use Rattle.renderer_calls.specs.Renderers.{Marking}
-use Rattle.tagged_lines.specs.Tagged.{Item}
+use Rattle.block_trait.specs.Renderers.{Marking}
+use Rattle.text_lines.specs.Tagged.{Item}
 
 some_is_one : {X : Type 0} (x y : X) → Some x ≡ Some y → x ≡ y
 some_is_one x y same = ap (λ o. unwrap_or o x) same

@@ -3,5 +3,5 @@ pub mod OneAnswer
 pub mod PlainLemmas
 pub mod ReadingLemmas
 pub mod SeenSettings
-pub mod WidthLemmas
 pub mod SomeAnswer
+pub mod WidthLemmas

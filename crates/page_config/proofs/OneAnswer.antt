@@ -1,19 +1,18 @@
 -- Bytes have one answer, since they have one tree.
 use Rattle.std.proofs.Common.{◌≡◌, sym, ap, subst, ◌∙◌, ℕ, List, []}
-use Rattle.html_forest.specs.Forest.{Forest}
-use Rattle.html_forest.specs.declared.sink.QuirksMode.{QuirksMode}
-use Rattle.reference_tables.specs.References.{References}
-use Rattle.page_reading.specs.ParseOpts.{ParseOpts}
+use Rattle.tree_forest.specs.Forest.{Forest}
+use Rattle.tree_forest.specs.declared.sink.QuirksMode.{QuirksMode}
+use Rattle.lex_base.specs.References.{References}
+use Rattle.html_tree_builder.specs.declared.options.ParseOpts.{ParseOpts}
 use Rattle.page_config.proofs.AnswerLemmas.{answer_is_one}
-use Rattle.page_config.specs.PageAnswers.{ArePageValues, HasAnswer, HasText, IsAnswerOf}
-use Rattle.page_config.specs.PageAnswers.{PageAnswer, fail, lines, lines_text}
-use Rattle.page_config.specs.PageAnswers.{too_narrow}
+use Rattle.page_config.specs.PageAnswers.{ArePageValues, HasAnswer, HasText, IsAnswerOf, PageAnswer, fail, lines}
+use Rattle.page_config.specs.PageAnswers.{lines_text, too_narrow}
 use Rattle.page_config.specs.Settings.{PageSetting}
 use Rattle.page_reading.specs.PageTrees.{IsTreeOfBytes}
 use Rattle.render_conversion.specs.Conversion.{document_values}
 use Rattle.render_values.specs.Values.{Values}
-use Rattle.renderer_calls.specs.Renderers.{Marking}
-use Rattle.tagged_lines.specs.Tagged.{Item}
+use Rattle.block_trait.specs.Renderers.{Marking}
+use Rattle.text_lines.specs.Tagged.{Item}
 
 -- bytes have one tree
 abbrev pub OneTree : Type 0
@@ -40,5 +39,5 @@ module _ {T H A : Type 0} (m : Marking H A) (seen : T → A) (closes : H → Lis
 
   pub one_text : (c : PageSetting H) (width : ℕ) (bytes one other : List ℕ)
       → HasText m seen closes c width bytes one → HasText m seen closes c width bytes other → one ≡ other
-  one_text c width bytes one other a b = a.told ∙ ap (λ answer. lines_text (lines_in answer))
-      (one_answer c width bytes (lines a.shown) (lines b.shown) a.answer b.answer) ∙ sym b.told
+  one_text c width bytes one other a b = a.emitted ∙ ap (λ answer. lines_text (lines_in answer))
+      (one_answer c width bytes (lines a.shown) (lines b.shown) a.answer b.answer) ∙ sym b.emitted

@@ -1,10 +1,10 @@
 -- What a page is as plain text, of what was made of it by the decorator of plain text.
-use Rattle.std.proofs.Common.{ℕ, List, Option, None, Some}
-use Rattle.std.proofs.Common.{IfOk, IfSome, Global, String, chars, refl, string_bytes, sym, ◌∙◌}
+use Rattle.std.proofs.Common.{◌∙◌, Global, IfOk, IfSome, List, None, Option, Some, String, chars, refl, string_bytes}
+use Rattle.std.proofs.Common.{sym, ℕ}
 use Rattle.std.specs.Prelude.{Err, Ok, Result}
-use Rattle.reference_tables.specs.References.{References}
+use Rattle.lex_base.specs.References.{References}
 use Rattle.page_config.proofs.SeenSettings.{AreAlike}
-use Rattle.page_config.specs.PageAnswers.{Answers, IsTold, PageAnswer}
+use Rattle.page_config.specs.PageAnswers.{Answers, IsEmitted, PageAnswer}
 use Rattle.page_config.specs.PlainPages.{HasPlainAnswer, HasPlainText, IsPlain, plain_view}
 use Rattle.page_config.specs.Settings.{PageSetting}
 
@@ -19,12 +19,12 @@ plain_alike table c d p q = record {
 }
 
 -- annotations of plain text are seen in one way
-plain_told : (table : References) (c : PageSetting (Unit {0})) (width : ℕ) (all : Option (List ℕ)) (told : List ℕ)
+plain_emitted : (table : References) (c : PageSetting (Unit {0})) (width : ℕ) (all : Option (List ℕ)) (emitted : List ℕ)
     → IsPlain table c
-    → IfSome all (λ bytes. IsTold {A = Unit {0}} (λ _. tt) plain_view c width bytes told)
-    → IfSome all (λ bytes. HasPlainText table width bytes told)
-plain_told table c width None told plain is = tt
-plain_told table c width (Some bytes) told plain is = record {
+    → IfSome all (λ bytes. IsEmitted {A = Unit {0}} (λ _. tt) plain_view c width bytes emitted)
+    → IfSome all (λ bytes. HasPlainText table width bytes emitted)
+plain_emitted table c width None emitted plain is = tt
+plain_emitted table c width (Some bytes) emitted plain is = record {
   setting = c;
   plain = plain;
   has = is (λ _ _. tt) (λ h m a given. refl);
@@ -41,10 +41,10 @@ plain_answer table c width (Some bytes) answer plain is = record {
   has = is (λ _ _. tt) (λ h m a given. refl);
 }
 
-pub told_text : {E : Type 0} (table : References) (c : PageSetting (Unit {0})) (width : ℕ) (all : Option (List ℕ))
+pub emitted_text : {E : Type 0} (table : References) (c : PageSetting (Unit {0})) (width : ℕ) (all : Option (List ℕ))
     (r : Result (String Global) E) → IsPlain table c
-    → IfOk r (λ text. IfSome all (λ bytes. IsTold {A = Unit {0}} (λ _. tt) plain_view c width bytes
+    → IfOk r (λ text. IfSome all (λ bytes. IsEmitted {A = Unit {0}} (λ _. tt) plain_view c width bytes
     (chars (string_bytes text))))
     → IfOk r (λ text. IfSome all (λ bytes. HasPlainText table width bytes (chars (string_bytes text))))
-told_text table c width all (Ok text) plain is = plain_told table c width all (chars (string_bytes text)) plain is
-told_text table c width all (Err e) plain is = tt
+emitted_text table c width all (Ok text) plain is = plain_emitted table c width all (chars (string_bytes text)) plain is
+emitted_text table c width all (Err e) plain is = tt

@@ -1,14 +1,13 @@
 -- Answers of what was read.
-use Rattle.std.proofs.Common.{◌≡◌, ◌≢◌, ◌⊎◌, inl, inr, ℕ, ◌<◌, List}
-use Rattle.std.proofs.Common.{refl, Option, None, Some, IfSome, sym, subst}
+use Rattle.std.proofs.Common.{◌≡◌, ◌≢◌, ◌⊎◌, ◌<◌, IfSome, List, None, Option, Some, inl, inr, refl, subst, sym, ℕ}
 use Rattle.block_renderer.specs.Seen.{IsTagging, marking}
-use Rattle.html_forest.specs.Forest.{Forest}
-use Rattle.html_forest.specs.declared.sink.QuirksMode.{QuirksMode}
+use Rattle.tree_forest.specs.Forest.{Forest}
+use Rattle.tree_forest.specs.declared.sink.QuirksMode.{QuirksMode}
 use Rattle.html_render_tree.proofs.OptionLemmas.{some_mapped}
 use Rattle.html_render_tree.specs.PageLines.{Setting, page_lines, page_text}
 use Rattle.page_config.specs.Errors.{error_of_render}
-use Rattle.page_config.specs.PageAnswers.{Answers, ArePageValues, HasText, IsTold, fail, lines}
-use Rattle.page_config.specs.PageAnswers.{lines_text, too_narrow}
+use Rattle.page_config.specs.PageAnswers.{Answers, ArePageValues, HasText, IsEmitted, fail, lines, lines_text}
+use Rattle.page_config.specs.PageAnswers.{too_narrow}
 use Rattle.page_config.specs.Settings.{PageSetting}
 use Rattle.page_config.specs.declared.error.Error.TheVariants as errors
 use Rattle.page_reading.specs.PageTrees.{IsTreeOfBytes}
@@ -16,9 +15,9 @@ use Rattle.render_conversion.specs.Conversion.{document_values}
 use Rattle.render_conversion.specs.declared.error.RenderError.{RenderError}
 use Rattle.render_conversion.specs.declared.error.RenderError.TheVariants as rendering
 use Rattle.render_values.specs.Values.{Values, none}
-use Rattle.renderer_calls.specs.Renderers.{Marking}
-use Rattle.tagged_lines.specs.Tagged.{Item}
-use Rattle.text_marks.specs.Marks.{DecoratorView, Mark}
+use Rattle.block_trait.specs.Renderers.{Marking}
+use Rattle.text_lines.specs.Tagged.{Item}
+use Rattle.text_decorators.specs.Marks.{DecoratorView, Mark}
 
 pub read_values : {H : Type 0} (c : PageSetting H) (all : Option (List ℕ)) (forest : Forest) (mode : QuirksMode)
     (values : Values) → document_values c.rules forest ≡ values
@@ -47,7 +46,7 @@ printed_lines m seen closes c width bytes values text page some wide printed =
     record {
       shown = given.0;
       answer = record { values = values; page = page; answered = (some, (wide, given.1.0)) };
-      told = sym given.1.1;
+      emitted = sym given.1.1;
     }
 
 module _ {D T H A : Type 0} (seen : T → A) (view : DecoratorView D H T) (c : PageSetting H) (width : ℕ) where
@@ -100,12 +99,12 @@ module _ {D T H A : Type 0} (seen : T → A) (view : DecoratorView D H T) (c : P
   nothing_read None page = tt
   nothing_read (Some bytes) page = λ tag p. record { values = none; page = page; answered = refl }
 
-  pub text_read : (all : Option (List ℕ)) (values : Values) (s : Setting H) (told : List ℕ)
+  pub text_read : (all : Option (List ℕ)) (values : Values) (s : Setting H) (emitted : List ℕ)
       → IfSome all (λ bytes. ArePageValues c bytes values) → s ≡ c.rendering → values ≢ none → 0 < width
-      → Each (λ tag. page_text (marking view tag) seen view.closes s width values ≡ Some told)
-      → IfSome all (λ bytes. IsTold seen view c width bytes told)
-  text_read None values s told page same some wide printed = tt
-  text_read (Some bytes) values s told page same some wide printed = λ tag p. printed_lines
-      (marking view tag) seen view.closes c width bytes values told page some wide
-      (subst (λ s. page_text (marking view tag) seen view.closes s width values ≡ Some told) same
+      → Each (λ tag. page_text (marking view tag) seen view.closes s width values ≡ Some emitted)
+      → IfSome all (λ bytes. IsEmitted seen view c width bytes emitted)
+  text_read None values s emitted page same some wide printed = tt
+  text_read (Some bytes) values s emitted page same some wide printed = λ tag p. printed_lines
+      (marking view tag) seen view.closes c width bytes values emitted page some wide
+      (subst (λ s. page_text (marking view tag) seen view.closes s width values ≡ Some emitted) same
       (printed tag p))

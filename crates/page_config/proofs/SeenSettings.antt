@@ -6,9 +6,9 @@ use Rattle.page_config.specs.PageAnswers.{HasAnswer, HasText, IsAnswerOf, PageAn
 use Rattle.page_config.specs.Settings.{PageSetting}
 use Rattle.page_reading.specs.PageTrees.{IsTreeOfBytes}
 use Rattle.render_conversion.specs.Decorating.{seen_rule}
-use Rattle.renderer_calls.specs.Renderers.{Marking}
-use Rattle.renderer_calls.specs.declared.options.RenderOptions.{RenderOptions}
-use Rattle.tagged_lines.specs.Tagged.{Item}
+use Rattle.block_trait.specs.Renderers.{Marking}
+use Rattle.block_trait.specs.declared.options.RenderOptions.{RenderOptions}
+use Rattle.text_lines.specs.Tagged.{Item}
 
 pub record AreAlike (c d : PageSetting (Unit {0})) : Type 0 where
   pub table : c.table ≡ d.table
@@ -42,4 +42,4 @@ module _ {T A : Type 0} (m : Marking (Unit {0}) A) (seen : T → A)
 
   pub texts_alike : (text : List ℕ) → HasText m seen closes c width bytes text
       → HasText m seen closes d width bytes text
-  texts_alike text t = record { shown = t.shown; answer = answers_alike (lines t.shown) t.answer; told = t.told }
+  texts_alike text t = record { shown = t.shown; answer = answers_alike (lines t.shown) t.answer; emitted = t.emitted }

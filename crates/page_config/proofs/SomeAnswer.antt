@@ -1,19 +1,17 @@
 -- Values have an answer at a width.
-use Rattle.std.proofs.Common.{◌≡◌, ◌≢◌, ◌⊎◌, inl, inr, refl, ℕ, zero, suc, ◌<◌, List, arith}
-use Rattle.std.proofs.Common.{Option, None, Some}
-use Rattle.html_forest.specs.Forest.{Forest}
-use Rattle.html_forest.specs.declared.sink.QuirksMode.{QuirksMode}
-use Rattle.reference_tables.specs.References.{References}
+use Rattle.std.proofs.Common.{◌≡◌, ◌≢◌, ◌⊎◌, ◌<◌, List, None, Option, Some, arith, inl, inr, refl, suc, zero, ℕ}
+use Rattle.tree_forest.specs.Forest.{Forest}
+use Rattle.tree_forest.specs.declared.sink.QuirksMode.{QuirksMode}
+use Rattle.lex_base.specs.References.{References}
 use Rattle.html_render_tree.specs.PageLines.{Setting, page_lines}
-use Rattle.page_reading.specs.ParseOpts.{ParseOpts}
-use Rattle.page_config.specs.PageAnswers.{HasAnswer, IsAnswerOf, PageAnswer, fail, lines}
-use Rattle.page_config.specs.PageAnswers.{too_narrow}
+use Rattle.html_tree_builder.specs.declared.options.ParseOpts.{ParseOpts}
+use Rattle.page_config.specs.PageAnswers.{HasAnswer, IsAnswerOf, PageAnswer, fail, lines, too_narrow}
 use Rattle.page_config.specs.Settings.{PageSetting}
 use Rattle.page_reading.specs.PageTrees.{IsTreeOfBytes}
 use Rattle.render_conversion.specs.Conversion.{document_values}
 use Rattle.render_values.specs.Values.{Values, none, value}
-use Rattle.renderer_calls.specs.Renderers.{Marking}
-use Rattle.tagged_lines.specs.Tagged.{Item}
+use Rattle.block_trait.specs.Renderers.{Marking}
+use Rattle.text_lines.specs.Tagged.{Item}
 
 -- bytes have a tree
 abbrev pub HasTree : Type 0

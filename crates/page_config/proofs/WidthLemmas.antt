@@ -1,18 +1,18 @@
 -- The lines of a page keep its width.
 use Rattle.std.proofs.Common.{◌≡◌, ◌∙◌, inl, inr, ℕ, ◌<◌, ◌≤◌, true, false, List, arith, map, subst}
 use Rattle.std.proofs.lemmas.List.Elements.{All-map}
-use Rattle.html_forest.specs.Forest.{Forest}
+use Rattle.tree_forest.specs.Forest.{Forest}
 use Rattle.html_render_tree.specs.PageLaws.{AreWithin, IsTextWithin, PagesHaveRoom, PagesKeepWidth}
 use Rattle.html_render_tree.proofs.TextWidths.{as_lines}
 use Rattle.page_config.specs.PageAnswers.{HasAnswer, HasText, IsAnswerOf, lines, too_narrow}
 use Rattle.page_config.specs.Settings.{PageSetting}
 use Rattle.render_conversion.specs.Conversion.{document_values}
 use Rattle.render_values.specs.Values.{Values}
-use Rattle.renderer_calls.specs.Renderers.{Marking}
-use Rattle.style_cascade.specs.declared.rules.StyleRule.{StyleRule}
-use Rattle.tagged_lines.specs.Columns.{text_columns}
-use Rattle.tagged_lines.specs.Tagged.{Item, characters}
-use Rattle.text_marks.specs.Marks.{IsSteady}
+use Rattle.block_trait.specs.Renderers.{Marking}
+use Rattle.dom_styles.specs.declared.rules.StyleRule.{StyleRule}
+use Rattle.text_lines.specs.Columns.{text_columns}
+use Rattle.text_lines.specs.Tagged.{Item, characters}
+use Rattle.text_decorators.specs.Marks.{IsSteady}
 use Rattle.html_render_tree.specs.WalkLaws.{AreNumbered}
 
 module _ {T H A : Type 0} (m : Marking H A) (seen : T → A) (closes : H → List (List ℕ) → List (List (Item T)))
@@ -34,7 +34,7 @@ module _ {T H A : Type 0} (m : Marking H A) (seen : T → A) (closes : H → Lis
         → IsTextWithin width text
     text_within numbered keeps c width bytes text steady off wrapped wide has = record {
       lines = map characters has.shown;
-      given = has.told ∙ as_lines has.shown;
+      given = has.emitted ∙ as_lines has.shown;
       within = All-map (λ line. text_columns line ≤ width) characters has.shown
           (within_width numbered keeps c width bytes has.shown steady off wrapped wide has.answer);
     }

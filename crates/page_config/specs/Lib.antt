@@ -3,10 +3,3 @@ pub mod PageAnswers
 pub mod PlainPages
 pub mod RichPages
 pub mod Settings
-pub use Rattle.html_render_tree.specs.PageLaws
-pub use Rattle.html_render_tree.specs.PageLines
-pub use Rattle.page_reading.specs.PageTrees
-pub use Rattle.page_reading.specs.Defaults
-pub use Rattle.html_render_tree.specs.PlainText
-pub use Rattle.html_render_tree.specs.RichText
-pub use Rattle.page_reading.specs.ParseOpts

@@ -1,16 +1,16 @@
 -- What is answered of a page: a function of its bytes, a width, and what a configuration says.
 use Rattle.std.specs.Prelude.{◌≡◌, ◌≢◌, ◌⊎◌, ℕ, ◌<◌, List, None, Some}
 use Rattle.block_renderer.specs.Seen.{IsTagging, marking}
-use Rattle.html_forest.specs.Forest.{Forest}
-use Rattle.html_forest.specs.declared.sink.QuirksMode.{QuirksMode}
+use Rattle.tree_forest.specs.Forest.{Forest}
+use Rattle.tree_forest.specs.declared.sink.QuirksMode.{QuirksMode}
 pub use Rattle.html_render_tree.specs.PageLines.{lines_text}
 use Rattle.html_render_tree.specs.PageLines.{Setting, page_lines}
 use Rattle.page_reading.specs.PageTrees.{IsTreeOfBytes}
 use Rattle.render_conversion.specs.Conversion.{document_values}
 use Rattle.render_values.specs.Values.{Values, none}
-use Rattle.renderer_calls.specs.Renderers.{Marking}
-use Rattle.tagged_lines.specs.Tagged.{Item}
-use Rattle.text_marks.specs.Marks.{DecoratorView}
+use Rattle.block_trait.specs.Renderers.{Marking}
+use Rattle.text_lines.specs.Tagged.{Item}
+use Rattle.text_decorators.specs.Marks.{DecoratorView}
 use Rattle.page_config.specs.Settings.{PageSetting}
 
 -- The values of a page: what the tree of its bytes converts to.
@@ -50,7 +50,7 @@ pub record HasText {T H A : Type 0} (m : Marking H A) (seen : T → A)
     : Type 0 where
   pub shown : List (List (Item (List A)))
   pub answer : HasAnswer m seen closes c width bytes (lines shown)
-  pub told : text ≡ lines_text shown
+  pub emitted : text ≡ lines_text shown
 
 -- However a decorator's annotations are seen, this is the answer.
 abbrev pub Answers : {D T H A : Type 0} → (T → A) → DecoratorView D H T
@@ -59,7 +59,7 @@ Answers seen view c width bytes answer = (tag : _) → IsTagging seen view tag
     → HasAnswer (marking view tag) seen view.closes c width bytes answer
 
 -- However they are seen, this is the text.
-abbrev pub IsTold : {D T H A : Type 0} → (T → A) → DecoratorView D H T
-    → PageSetting H → ℕ → (bytes told : List ℕ) → Type 0
-IsTold seen view c width bytes told = (tag : _) → IsTagging seen view tag
-    → HasText (marking view tag) seen view.closes c width bytes told
+abbrev pub IsEmitted : {D T H A : Type 0} → (T → A) → DecoratorView D H T
+    → PageSetting H → ℕ → (bytes emitted : List ℕ) → Type 0
+IsEmitted seen view c width bytes emitted = (tag : _) → IsTagging seen view tag
+    → HasText (marking view tag) seen view.closes c width bytes emitted

@@ -1,15 +1,15 @@
 -- Pages as plain text: what the configurations of plain text say, and what is answered by them.
 use Rattle.std.specs.Prelude.{◌≡◌, ℕ, false, true, List, map}
-use Rattle.reference_tables.specs.References.{References}
+use Rattle.lex_base.specs.References.{References}
 use Rattle.html_render_tree.specs.PlainText.{plain_closes, plain_marking}
-use Rattle.page_reading.specs.Defaults.{default_parse}
+use Rattle.html_tree_builder.specs.Defaults.{default_parse}
 use Rattle.page_config.specs.PageAnswers.{HasAnswer, HasText, PageAnswer}
 use Rattle.page_config.specs.Settings.{PageSetting}
 use Rattle.render_conversion.specs.Decorating.{decorating_rules, seen_rule}
-use Rattle.renderer_calls.specs.Defaults.{default_options}
+use Rattle.block_trait.specs.Defaults.{default_options}
 use Rattle.text_decorators.specs.Texts.{plain_text}
 use Rattle.text_decorators.specs.declared.plain.PlainDecorator.{PlainDecorator}
-use Rattle.text_marks.specs.Marks.{DecoratorView}
+use Rattle.text_decorators.specs.Marks.{DecoratorView}
 
 -- what the decorator of plain text is seen as
 abbrev pub plain_view : DecoratorView PlainDecorator (Unit {0}) (Unit {0})

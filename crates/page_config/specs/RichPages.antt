@@ -7,7 +7,7 @@ use Rattle.text_decorators.specs.Annotations.{RichTag, rich_tag}
 use Rattle.text_decorators.specs.Texts.{IsRich, is_colour, rich_text}
 use Rattle.text_decorators.specs.declared.annotation.RichAnnotation.{RichAnnotation}
 use Rattle.text_decorators.specs.declared.rich.RichDecorator.{RichDecorator}
-use Rattle.text_marks.specs.Marks.{DecoratorView}
+use Rattle.text_decorators.specs.Marks.{DecoratorView}
 
 -- what the decorator of rich text is seen as
 abbrev pub rich_view : DecoratorView RichDecorator (Unit {0}) RichAnnotation

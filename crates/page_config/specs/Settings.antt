@@ -1,15 +1,15 @@
 -- What contracts see of a `Config`.
 use Rattle.std.specs.Prelude.{ℕ, Bool, false, List, []}
-use Rattle.reference_tables.specs.References.{References}
+use Rattle.lex_base.specs.References.{References}
 use Rattle.html_render_tree.specs.PageLines.{Setting}
-use Rattle.text_marks.specs.Marks.{DecoratorView}
+use Rattle.text_decorators.specs.Marks.{DecoratorView}
 use Rattle.html_render_tree.specs.Settings.{rules_of, setting_of}
-use Rattle.page_reading.specs.Defaults.{default_parse}
-use Rattle.page_reading.specs.ParseOpts.{ParseOpts}
+use Rattle.html_tree_builder.specs.Defaults.{default_parse}
+use Rattle.html_tree_builder.specs.declared.options.ParseOpts.{ParseOpts}
 use Rattle.page_config.specs.declared.config.Config.{Config}
-use Rattle.renderer_calls.specs.Defaults.{default_options}
-use Rattle.renderer_calls.specs.declared.options.RenderOptions.{RenderOptions}
-use Rattle.style_cascade.specs.declared.rules.StyleRule.{StyleRule}
+use Rattle.block_trait.specs.Defaults.{default_options}
+use Rattle.block_trait.specs.declared.options.RenderOptions.{RenderOptions}
+use Rattle.dom_styles.specs.declared.rules.StyleRule.{StyleRule}
 
 -- the table of references and the options by which a page is parsed, the rules of style, and what it is rendered by;
 -- and whether the rules that mark emphasis, strong text, terms and code were asked for

@@ -5,13 +5,13 @@ ghost use Rattle.html_render_tree.specs.Coloured.{AreColouredLines, Colours};
 ghost use Rattle.html_render_tree.specs.PageLines.{page_lines};
 ghost use Rattle.page_config.specs.Settings.{page_setting};
 ghost use Rattle.page_config.specs.declared.error.Error.TheVariants as errors;
-ghost use Rattle.tagged_lines.specs.Tagged.{line_items};
+ghost use Rattle.text_lines.specs.Tagged.{line_items};
 
 use crate::config::Config;
 use crate::error::Error;
 use html_render_tree::RenderTree;
 use std::alloc::{AllocError, Global};
-use text_marks::TextDecorator;
+use text_decorators::TextDecorator;
 
 impl<D: TextDecorator + Drop> Config<D> {
     /// The text of a render tree: of each line what `colour_map` makes of its strings, each with its annotations, and

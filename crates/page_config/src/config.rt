@@ -1,17 +1,17 @@
 //! How pages are read and rendered.
-ghost use Rattle.std.specs.Prelude.{◌≡◌, ◌≢◌, ◌⊎◌, ◌<◌, ◌≤◌, ◌++◌, true, false, Err, IfErr, IfOk, Some};
-ghost use Rattle.std.specs.Prelude.{chars, map, string_bytes};
+ghost use Rattle.std.specs.Prelude.{◌≡◌, ◌≢◌, ◌⊎◌, ◌<◌, ◌≤◌, ◌++◌, Err, IfErr, IfOk, Some, chars, false, map};
+ghost use Rattle.std.specs.Prelude.{string_bytes, true};
 
 use crate::error::Error;
+use block_trait::{ImageRenderMode, RenderOptions};
+use dom_styles::StyleRule;
 use html_lexemes::ReferenceTable;
 use html_render_dom::RcDom;
 use html_render_tree::{RenderConfig, RenderTree};
-use page_reading::ParseOpts;
-use renderer_calls::{ImageRenderMode, RenderOptions};
+use html_tree_builder::ParseOpts;
 use std::alloc::Global;
-use style_cascade::StyleRule;
-use tagged_lines::TaggedLine;
-use text_marks::TextDecorator;
+use text_decorators::TextDecorator;
+use text_lines::TaggedLine;
 
 /// How pages are read and rendered: the table of references, how a page is parsed, how it is rendered, and how many
 /// bytes it may have.
@@ -34,8 +34,8 @@ impl<D: TextDecorator + Drop> Config<D> {
     ghost use Rattle.page_config.specs.declared.error.Error.TheVariants as errors;
     ghost use Rattle.render_conversion.specs.Conversion.{document_values};
     ghost use Rattle.render_values.specs.Values.{none};
-    ghost use Rattle.tagged_lines.specs.Tagged.{line_items};
-    ghost use Rattle.text_marks.specs.Marks.{IsSteady};
+    ghost use Rattle.text_lines.specs.Tagged.{line_items};
+    ghost use Rattle.text_decorators.specs.Marks.{IsSteady};
     ghost use Rattle.html_render_tree.specs.WalkLaws.{AreNumbered};
 
     /// As pages are rendered by a decorator: parsed by this table and as they are by default, without a bound on the

@@ -5,16 +5,15 @@ ghost use Rattle.html_render_tree.specs.PageLaws.{AreWithin, IsTextWithin};
 ghost use Rattle.page_config.specs.PageAnswers.{HasAnswer, HasText, PageAnswer, lines, too_narrow};
 ghost use Rattle.page_config.specs.PlainPages.{HasPlainAnswer, HasPlainText};
 ghost use Rattle.page_config.specs.Settings.{PageSetting};
-ghost use Rattle.reference_tables.specs.References.{References};
-ghost use Rattle.tagged_lines.specs.Tagged.{Item};
-ghost use Rattle.text_marks.specs.Marks.{IsSteady, Mark};
+ghost use Rattle.lex_base.specs.References.{References};
+ghost use Rattle.text_lines.specs.Tagged.{Item};
+ghost use Rattle.text_decorators.specs.Marks.{IsSteady, Mark};
 
 use html_render_tree::{
     pages_are_numbered, pages_keep_the_width, pages_with_room_are_never_too_narrow,
 };
 use page_reading::{a_page_has_a_tree_of_bytes, a_page_has_one_tree_of_bytes};
-use text_decorators::PlainDecorator;
-use text_marks::TextDecorator;
+use text_decorators::{PlainDecorator, TextDecorator};
 
 /// A page has one answer: of equal bytes, read and rendered by equal configurations at equal widths, however they were
 /// cut, the lines are equal, and lines, a width that is too narrow, and nothing to render exclude one another.

@@ -1,8 +1,8 @@
 //! A page piece by piece.
-ghost use Rattle.std.specs.Prelude.{◌≡◌, ◌+◌, ◌<◌, ◌++◌, ◌⊎◌, ℕ, List, [], true, false, length, is_err, Err};
-ghost use Rattle.std.specs.Prelude.{IfErr, IfOk, OnOk};
-ghost use Rattle.html_forest.specs.Forest.{Forest};
-ghost use Rattle.html_forest.specs.declared.sink.QuirksMode.{QuirksMode as Quirks};
+ghost use Rattle.std.specs.Prelude.{◌≡◌, ◌+◌, ◌<◌, ◌++◌, ◌⊎◌, [], Err, IfErr, IfOk, List, OnOk, false, is_err, length};
+ghost use Rattle.std.specs.Prelude.{true, ℕ};
+ghost use Rattle.tree_forest.specs.Forest.{Forest};
+ghost use Rattle.tree_forest.specs.declared.sink.QuirksMode.{QuirksMode as Quirks};
 ghost use Rattle.page_config.specs.declared.error.Error.TheVariants.{Fail, Memory, TooLong};
 
 use crate::config::Config;
@@ -11,7 +11,7 @@ use html_render_dom::RcDom;
 use page_reading::PageReader;
 use std::alloc::Global;
 use std::marker::Model;
-use text_marks::TextDecorator;
+use text_decorators::TextDecorator;
 
 /// A page that comes piece by piece, however cut, read as a configuration says. Contracts see the trees that may come
 /// of it, how many bytes may still come, and whether a call was refused. Then every later one is, as `Fail`.

@@ -1,22 +1,20 @@
 //! Pages as plain text.
-ghost use Rattle.std.specs.Prelude.{◌≡◌, ◌≤◌, true, false, Err, IfErr, IfOk, IfSome};
-ghost use Rattle.std.specs.Prelude.{chars, string_bytes};
+ghost use Rattle.std.specs.Prelude.{◌≡◌, ◌≤◌, Err, IfErr, IfOk, IfSome, chars, false, string_bytes, true};
 ghost use Rattle.std.specs.Io.KnownBytes.{IsAtEnd};
 ghost use Rattle.block_renderer.specs.Seen.{IsTagging};
 ghost use Rattle.html_render_tree.specs.PageLaws.{IsTextWithin};
 ghost use Rattle.page_config.specs.Errors.{IsAnswer};
-ghost use Rattle.page_config.specs.PageAnswers.{Answers, IsTold, fail, too_narrow};
+ghost use Rattle.page_config.specs.PageAnswers.{Answers, IsEmitted, fail, too_narrow};
 ghost use Rattle.page_config.specs.PlainPages.{HasPlainAnswer, HasPlainText, IsPlain};
 ghost use Rattle.page_config.specs.Settings.{bare_setting, by_default, max_bytes_of};
-ghost use Rattle.text_marks.specs.Marks.{IsSteady};
+ghost use Rattle.text_decorators.specs.Marks.{IsSteady};
 
 use crate::config::Config;
 use crate::error::Error;
 use html_lexemes::{ByteReader, ReferenceTable};
 use std::alloc::Global;
-use tagged_lines::TaggedLine;
-use text_decorators::PlainDecorator;
-use text_marks::TextDecorator;
+use text_decorators::{PlainDecorator, TextDecorator};
+use text_lines::TaggedLine;
 
 /// A line of plain text.
 pub type PlainLine = TaggedLine<Vec<()>>;
@@ -74,7 +72,7 @@ pub fn from_read_with_decorator<R: ByteReader, D: TextDecorator + Drop>(
     decorator: D,
     table: ReferenceTable,
 ) -> Result<String, Error>
-    ensures text { IfOk result (λ text. IfSome (R.remaining input.old) (λ bytes. IsTold D.Annotation.seen D.view
+    ensures text { IfOk result (λ text. IfSome (R.remaining input.old) (λ bytes. IsEmitted D.Annotation.seen D.view
         (by_default table (D.view.sub (D.view.held decorator))) width bytes (chars (string_bytes text)))) }
     ensures narrow { result ≡ Err Error.TooNarrow → IfSome (R.remaining input.old) (λ bytes. Answers D.Annotation.seen
         D.view (by_default table (D.view.sub (D.view.held decorator))) width bytes too_narrow) }

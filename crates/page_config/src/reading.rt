@@ -1,6 +1,6 @@
 //! Pages that readers give.
-ghost use Rattle.std.specs.Prelude.{◌≡◌, ◌≢◌, ◌⊎◌, ◌+◌, ◌<◌, ◌≤◌, true, false, Err, IfErr, IfOk, IfSome, OnOk};
-ghost use Rattle.std.specs.Prelude.{chars, length, map, string_bytes};
+ghost use Rattle.std.specs.Prelude.{◌≡◌, ◌≢◌, ◌⊎◌, ◌+◌, ◌<◌, ◌≤◌, Err, IfErr, IfOk, IfSome, OnOk, chars, false, length};
+ghost use Rattle.std.specs.Prelude.{map, string_bytes, true};
 ghost use Rattle.std.specs.Io.KnownBytes.{IsAtEnd};
 ghost use Rattle.page_config.specs.Errors.{IsAnswer};
 ghost use Rattle.page_config.specs.declared.error.Error.TheVariants as errors;
@@ -12,19 +12,20 @@ use html_render_dom::RcDom;
 use html_render_tree::{RenderConfig, RenderTree};
 use page_reading::read_page;
 use std::alloc::Global;
-use tagged_lines::TaggedLine;
-use text_marks::TextDecorator;
+use text_decorators::TextDecorator;
+use text_lines::TaggedLine;
 
 impl<D: TextDecorator + Drop> Config<D> {
     ghost use Rattle.html_render_tree.specs.Settings.{setting_of};
-    ghost use Rattle.page_config.specs.PageAnswers.{Answers, ArePageValues, IsTold, fail, lines, lines_text, too_narrow};
+    ghost use Rattle.page_config.specs.PageAnswers.{Answers, ArePageValues, IsEmitted, fail, lines, lines_text};
+    ghost use Rattle.page_config.specs.PageAnswers.{too_narrow};
     ghost use Rattle.page_config.specs.Settings.{max_bytes_of, page_setting};
     ghost use Rattle.page_reading.specs.PageTrees.{IsTreeOfBytes};
     ghost use Rattle.render_values.specs.Values.{none};
-    ghost use Rattle.tagged_lines.specs.Tagged.{line_items};
+    ghost use Rattle.text_lines.specs.Tagged.{line_items};
     ghost use Rattle.block_renderer.specs.Seen.{IsTagging, tags_seen};
     ghost use Rattle.html_render_tree.specs.PageLaws.{AreWithin, IsTextWithin};
-    ghost use Rattle.text_marks.specs.Marks.{IsSteady};
+    ghost use Rattle.text_decorators.specs.Marks.{IsSteady};
     ghost use Rattle.html_render_tree.specs.WalkLaws.{AreNumbered};
 
     /// Reads a page to its end, and gives its tree: that of all the bytes that the reader had. It asks for one byte
@@ -133,7 +134,7 @@ impl<D: TextDecorator + Drop> Config<D> {
         input: &mut R,
         width: usize,
     ) -> Result<Vec<TaggedLine<Vec<D::Annotation>>>, Error>
-        ensures text { IfOk result (λ shown. IfSome (R.remaining input.old) (λ bytes. IsTold D.Annotation.seen D.view
+        ensures text { IfOk result (λ shown. IfSome (R.remaining input.old) (λ bytes. IsEmitted D.Annotation.seen D.view
             (page_setting D.view self) width bytes (lines_text (map (line_items (tags_seen D.Annotation.seen))
             shown.items)))) }
         ensures narrow { result ≡ Err Error.TooNarrow → IfSome (R.remaining input.old)
@@ -168,7 +169,7 @@ impl<D: TextDecorator + Drop> Config<D> {
         input: &mut R,
         width: usize,
     ) -> Result<String, Error>
-        ensures text { IfOk result (λ text. IfSome (R.remaining input.old) (λ bytes. IsTold D.Annotation.seen D.view
+        ensures text { IfOk result (λ text. IfSome (R.remaining input.old) (λ bytes. IsEmitted D.Annotation.seen D.view
             (page_setting D.view self) width bytes (chars (string_bytes text)))) }
         ensures narrow { result ≡ Err Error.TooNarrow → IfSome (R.remaining input.old)
             (λ bytes. Answers D.Annotation.seen D.view (page_setting D.view self) width bytes too_narrow) }

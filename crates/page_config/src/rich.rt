@@ -8,7 +8,7 @@ ghost use Rattle.page_config.specs.PageAnswers.{ArePageValues, fail, lines, too_
 ghost use Rattle.page_config.specs.RichPages.{HasRichAnswer};
 ghost use Rattle.page_config.specs.Settings.{bare_default, bare_setting, by_default, max_bytes_of};
 ghost use Rattle.render_values.specs.Values.{none};
-ghost use Rattle.tagged_lines.specs.Tagged.{line_items};
+ghost use Rattle.text_lines.specs.Tagged.{line_items};
 ghost use Rattle.text_decorators.specs.Annotations.{rich_tag};
 ghost use Rattle.html_render_tree.specs.WalkLaws.{AreNumbered};
 
@@ -17,8 +17,8 @@ use crate::error::Error;
 use html_lexemes::{ByteReader, ReferenceTable};
 use html_render_tree::RenderTree;
 use std::alloc::Global;
-use tagged_lines::TaggedLine;
 use text_decorators::{RichAnnotation, RichDecorator, TrivialDecorator};
+use text_lines::TaggedLine;
 
 /// A line of rich text.
 pub type RichLine = TaggedLine<Vec<RichAnnotation>>;

@@ -1,15 +1,15 @@
 -- A page begins where the laws of its items ask it to.
 use Rattle.std.proofs.Common.{◌≡◌, ℕ, ◌+◌, refl, subst, sym, None, Some}
-use Rattle.html_forest.specs.Forest.{Forest}
-use Rattle.html_forest.specs.Orders.{IsForest}
-use Rattle.html_forest.specs.declared.sink.QuirksMode.{QuirksMode}
-use Rattle.kept_text.specs.KeptText.{IsAtBeginning, in_texts, in_told}
-use Rattle.kept_text.specs.PageTexts.{KeepsTextOfPage, items_of}
+use Rattle.tree_forest.specs.Forest.{Forest}
+use Rattle.tree_forest.specs.Orders.{IsForest}
+use Rattle.tree_forest.specs.declared.sink.QuirksMode.{QuirksMode}
+use Rattle.page_tree_laws.specs.KeptText.{IsAtBeginning, in_texts, in_emitted}
+use Rattle.page_tree_laws.specs.PageTexts.{KeepsTextOfPage, items_of}
 use Rattle.page_laws.specs.Trees.{HasSkeletonOfTree, KeepsTextOfTree}
-use Rattle.page_skeleton.specs.Skeleton.{HasSkeletonOfPage, IsSkeleton}
+use Rattle.page_tree_laws.specs.Skeleton.{HasSkeletonOfPage, IsSkeleton}
 use Rattle.html_tree_builder.specs.Begun.{begun}
-use Rattle.tree_rules.specs.Settling.{Ready}
-use Rattle.tree_rules.specs.declared.options.TreeBuilderOpts.{TreeBuilderOpts}
+use Rattle.rules_table.specs.Settling.{Ready}
+use Rattle.rules_table.specs.declared.options.TreeBuilderOpts.{TreeBuilderOpts}
 
 pub begun_ready : (options : TreeBuilderOpts) (forest : Forest) (quirks : QuirksMode) → IsForest forest →
     Ready (begun options forest quirks)
@@ -49,7 +49,7 @@ pub tree_keeps_text : {H : Type 0} (handle : ℕ → H) → KeepsTextOfPage H �
 tree_keeps_text handle law from text forest quirks tree is_forest plain c kept =
     let in_final = law from.table handle _ _ _ tree.final tree.reading
     (begun_at_beginning from.options.tree_builder from.forest from.quirks is_forest) plain c kept in
-    subst (λ f. in_texts c f ≡ in_texts c from.forest + in_told c (items_of tree.reading)) (sym tree.nodes) in_final
+    subst (λ f. in_texts c f ≡ in_texts c from.forest + in_emitted c (items_of tree.reading)) (sym tree.nodes) in_final
 
 pub tree_has_skeleton : {H : Type 0} (handle : ℕ → H) → HasSkeletonOfPage H → HasSkeletonOfTree handle
 tree_has_skeleton handle law from text forest quirks tree is_forest bare is_framed unframed =

@@ -1,16 +1,15 @@
 //! Laws of the trees of pages.
-ghost use Rattle.html_forest.specs.Forest.{Forest};
-ghost use Rattle.html_forest.specs.Orders.{IsForest};
-ghost use Rattle.html_forest.specs.declared.sink.QuirksMode.{QuirksMode as Quirks};
-ghost use Rattle.kept_text.specs.KeptText.{IsAtBeginning};
+ghost use Rattle.tree_forest.specs.Forest.{Forest};
+ghost use Rattle.tree_forest.specs.Orders.{IsForest};
+ghost use Rattle.tree_forest.specs.declared.sink.QuirksMode.{QuirksMode as Quirks};
+ghost use Rattle.page_tree_laws.specs.KeptText.{IsAtBeginning};
 ghost use Rattle.page_laws.specs.Trees.{HasSkeletonOfBytes, HasSkeletonOfTree, KeepsTextOfBytes, KeepsTextOfTree};
 ghost use Rattle.html_tree_builder.specs.Begun.{begun};
-ghost use Rattle.tree_rules.specs.declared.options.TreeBuilderOpts.{TreeBuilderOpts as Options};
+ghost use Rattle.rules_table.specs.declared.options.TreeBuilderOpts.{TreeBuilderOpts as Options};
 
-use html_forest::TreeSink;
 use html_render_dom::RcDom;
-use kept_text::the_text_of_a_page_is_kept;
-use page_skeleton::a_page_has_its_skeleton;
+use page_tree_laws::{a_page_has_its_skeleton, the_text_of_a_page_is_kept};
+use tree_forest::TreeSink;
 
 /// A tree builder that has just begun on a forest is where laws of whole pages ask it to be, whatever its options are.
 pub fn a_page_is_at_its_beginning()

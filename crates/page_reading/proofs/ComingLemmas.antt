@@ -1,11 +1,11 @@
 -- What comes of a page: by what its decoder and its parser do.
 use Rattle.std.proofs.Common.{◌≡◌, ◌++◌, ℕ, List, [], sym, ap, ◌∙◌, subst, append_assoc}
-use Rattle.html_forest.specs.Forest.{Forest, page_alone}
-use Rattle.html_forest.specs.declared.sink.QuirksMode.{QuirksMode}
-use Rattle.html_forest.specs.declared.sink.QuirksMode.TheVariants.{NoQuirks}
+use Rattle.tree_forest.specs.Forest.{Forest, page_alone}
+use Rattle.tree_forest.specs.declared.sink.QuirksMode.{QuirksMode}
+use Rattle.tree_forest.specs.declared.sink.QuirksMode.TheVariants.{NoQuirks}
 use Rattle.html_tree_builder.specs.Grown.{IsGrown}
-use Rattle.tree_rules.specs.State.{State}
-use Rattle.utf8_decoding.specs.ReplacedText.{replaced_text}
+use Rattle.rules_table.specs.State.{State}
+use Rattle.page_decoding.specs.ReplacedText.{replaced_text}
 
 -- what ends in one way ends in another
 pub grown_as : (one other : State → Type 0) (forest : Forest) (mode : QuirksMode) →

@@ -1,9 +1,9 @@
 -- What a loop of reads has read of a page so far.
-use Rattle.std.proofs.Common.{◌≡◌, ℕ, ◌+◌, Bool, true, false, List, [], ◌++◌, length, Option, None, Some, IfSome}
-use Rattle.std.proofs.Common.{refl, ◌∙◌, length-append, subst, arith}
+use Rattle.std.proofs.Common.{◌≡◌, ◌+◌, [], ◌++◌, ◌∙◌, Bool, IfSome, List, None, Option, Some, arith, false, length}
+use Rattle.std.proofs.Common.{length-append, refl, subst, true, ℕ}
 use Rattle.std.specs.Io.KnownBytes.{Consumes, IsAtEnd}
-use Rattle.html_forest.specs.Forest.{Forest}
-use Rattle.html_forest.specs.declared.sink.QuirksMode.{QuirksMode}
+use Rattle.tree_forest.specs.Forest.{Forest}
+use Rattle.tree_forest.specs.declared.sink.QuirksMode.{QuirksMode}
 use Rattle.page_reading.specs.Readers.{Comes, Paging}
 
 -- Of the bytes that were known at first a rest is known now, and both are so.

@@ -1,9 +1,9 @@
 -- A page's tree, of the state that its reading ends in.
 use Rattle.std.proofs.Common.{ℕ, List, refl}
-use Rattle.html_forest.specs.Forest.{Forest}
-use Rattle.html_forest.specs.declared.sink.QuirksMode.{QuirksMode}
+use Rattle.tree_forest.specs.Forest.{Forest}
+use Rattle.tree_forest.specs.declared.sink.QuirksMode.{QuirksMode}
 use Rattle.html_tree_builder.specs.Grown.{Beginning, IsTreeOfPage, ReadsTo}
-use Rattle.tree_rules.specs.State.{State}
+use Rattle.rules_table.specs.State.{State}
 
 pub tree_of_reading : {H : Type 0} (handle : ℕ → H) (from : Beginning) (text : List ℕ) →
     (final : State) × ReadsTo handle from text final →

@@ -1,13 +1,13 @@
 -- The tree of a page that comes in bytes: that of the text which its bytes are read as.
 use Rattle.std.specs.Prelude.{ℕ, List}
-use Rattle.html_forest.specs.Forest.{Forest, page_alone}
-use Rattle.html_forest.specs.declared.sink.QuirksMode.{QuirksMode}
-use Rattle.html_forest.specs.declared.sink.QuirksMode.TheVariants.{NoQuirks}
-use Rattle.reference_tables.specs.References.{References}
+use Rattle.tree_forest.specs.Forest.{Forest, page_alone}
+use Rattle.tree_forest.specs.declared.sink.QuirksMode.{QuirksMode}
+use Rattle.tree_forest.specs.declared.sink.QuirksMode.TheVariants.{NoQuirks}
+use Rattle.lex_base.specs.References.{References}
 use Rattle.html_render_dom.specs.Numbers.{handle_of}
 use Rattle.html_tree_builder.specs.Grown.{Beginning, IsTreeOfPage, beginning}
 use Rattle.html_tree_builder.specs.declared.options.ParseOpts.{ParseOpts}
-use Rattle.utf8_decoding.specs.ReplacedText.{replaced_text}
+use Rattle.page_decoding.specs.ReplacedText.{replaced_text}
 
 -- a page begins with its document alone
 abbrev pub first_of_page : References → ParseOpts → Beginning

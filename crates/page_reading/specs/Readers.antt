@@ -1,16 +1,16 @@
 -- What contracts see of a `PageReader`.
 use Rattle.std.specs.Prelude.{◌≡◌, ℕ, Bool, false, List, ◌++◌}
-use Rattle.html_forest.specs.Forest.{Forest}
-use Rattle.html_forest.specs.Sinks.{SinkView}
-use Rattle.html_forest.specs.declared.sink.QuirksMode.{QuirksMode}
+use Rattle.tree_forest.specs.Forest.{Forest}
+use Rattle.tree_forest.specs.Sinks.{SinkView}
+use Rattle.tree_forest.specs.declared.sink.QuirksMode.{QuirksMode}
 use Rattle.html_render_dom.specs.Dom.{Dom}
 use Rattle.html_render_dom.specs.Numbers.{handle_of, number_of}
 use Rattle.html_render_dom.specs.declared.node.Handle.{Handle}
 use Rattle.html_tree_builder.specs.Grown.{IsGrown}
 use Rattle.html_tree_builder.specs.Parsers as parsers
 use Rattle.html_tree_builder.specs.declared.parser.Parser.{Parser}
-use Rattle.utf8_decoding.specs.Decoding.{Decoding}
-use Rattle.utf8_decoding.specs.ReplacedText.{replaced_text}
+use Rattle.page_decoding.specs.Decoding.{Decoding}
+use Rattle.page_decoding.specs.ReplacedText.{replaced_text}
 
 -- the bytes of an unfinished character, what parses the text, how many bytes may still come, and whether a call was
 -- refused

@@ -3,14 +3,14 @@ ghost use Rattle.std.specs.Prelude.{◌≡◌, ◌++◌, ℕ, List, false, IfErr
 ghost use Rattle.html_lexemes.specs.declared.fault.ParseFault.TheVariants.{Memory};
 ghost use Rattle.html_tree_builder.specs.Grown.{IsGrown};
 ghost use Rattle.html_tree_builder.specs.Parsers.{Completes, IsFit, has_failed};
-ghost use Rattle.tree_rules.specs.State.{State};
-ghost use Rattle.utf8_decoding.specs.ReplacedText.{replaced_text};
+ghost use Rattle.rules_table.specs.State.{State};
+ghost use Rattle.page_decoding.specs.ReplacedText.{replaced_text};
 
-use html_forest::TreeSink;
 use html_lexemes::ParseFault;
 use html_tree_builder::Parser;
+use page_decoding::Utf8LossyDecoder;
 use std::alloc::Global;
-use utf8_decoding::Utf8LossyDecoder;
+use tree_forest::TreeSink;
 
 /// Reads a piece of a page: its text, as far as it is complete, goes to the parser.
 pub(crate) fn feed<S: TreeSink>(

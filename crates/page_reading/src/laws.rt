@@ -1,16 +1,16 @@
 //! Laws of the trees of pages that come in bytes.
 ghost use Rattle.std.specs.Prelude.{◌≡◌, ℕ, List};
-ghost use Rattle.html_forest.specs.Forest.{Forest};
-ghost use Rattle.html_forest.specs.declared.sink.QuirksMode.{QuirksMode as Quirks};
-ghost use Rattle.reference_tables.specs.References.{References};
+ghost use Rattle.tree_forest.specs.Forest.{Forest};
+ghost use Rattle.tree_forest.specs.declared.sink.QuirksMode.{QuirksMode as Quirks};
+ghost use Rattle.lex_base.specs.References.{References};
 ghost use Rattle.html_tree_builder.specs.Grown.{Beginning, IsTreeOfPage};
 ghost use Rattle.html_tree_builder.specs.declared.options.ParseOpts.{ParseOpts as Options};
 ghost use Rattle.page_reading.specs.PageTrees.{IsTreeOfBytes};
 
-use html_forest::TreeSink;
-use html_grammar::laws::some_reading;
 use html_render_dom::RcDom;
 use html_tree_builder::{TreeBuilder, a_page_has_one_tree};
+use token_grammar::laws::some_reading;
+use tree_forest::TreeSink;
 
 /// Bytes have one tree: equal bytes, read by equal tables and options, in whatever pieces, have equal forests and equal
 /// quirks modes.

@@ -1,20 +1,20 @@
 //! A reader of a page.
-ghost use Rattle.std.specs.Prelude.{◌≡◌, ◌+◌, ◌<◌, ◌≤◌, ◌++◌, ◌⊎◌, ℕ, List, [], true, false, length, is_err, Err};
-ghost use Rattle.std.specs.Prelude.{IfErr, IfOk, OnOk};
+ghost use Rattle.std.specs.Prelude.{◌≡◌, ◌+◌, ◌<◌, ◌≤◌, ◌++◌, ◌⊎◌, [], Err, IfErr, IfOk, List, OnOk, false, is_err};
+ghost use Rattle.std.specs.Prelude.{length, true, ℕ};
 ghost use Rattle.page_reading.specs.PageTrees.{IsTreeOfBytes};
-ghost use Rattle.html_forest.specs.Forest.{Forest};
-ghost use Rattle.html_forest.specs.declared.sink.QuirksMode.{QuirksMode as Quirks};
+ghost use Rattle.tree_forest.specs.Forest.{Forest};
+ghost use Rattle.tree_forest.specs.declared.sink.QuirksMode.{QuirksMode as Quirks};
 ghost use Rattle.page_reading.specs.declared.fault.PageFault.TheVariants.{Failed, Memory, TooLong};
 
 use crate::fault::PageFault;
 use crate::feeding::{end, feed};
-use html_forest::a_page_alone_is_a_forest;
 use html_lexemes::ReferenceTable;
 use html_render_dom::RcDom;
 use html_tree_builder::{ParseOpts, Parser, parse_document};
+use page_decoding::Utf8LossyDecoder;
 use std::alloc::Global;
 use std::marker::Model;
-use utf8_decoding::Utf8LossyDecoder;
+use tree_forest::a_page_alone_is_a_forest;
 
 /// Reads a page that comes in bytes, however cut, into its tree: the bytes as UTF-8 with each ill-formed part as U+FFFD
 /// (Unicode Standard, 3.9), and the text as HTML (WHATWG HTML, 13.2). Contracts see the trees that may come of it, how

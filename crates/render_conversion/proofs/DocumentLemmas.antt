@@ -1,15 +1,15 @@
 -- The whole page.
 use Rattle.std.proofs.Common.{◌≡◌, ℕ, ◌==◌, true, List, [], ◌∷◌, ◌++◌, length, refl, sym, ap, ◌∙◌, arith}
 use Rattle.std.proofs.lemmas.Bool.{eqb-true}
-use Rattle.forest_trees.specs.Trees.{trees}
-use Rattle.html_forest.specs.Forest.{Forest}
+use Rattle.tree_forest.specs.Trees.{trees}
+use Rattle.tree_forest.specs.Forest.{Forest}
 use Rattle.html_render_dom.specs.Numbers.{number_of}
 use Rattle.html_render_dom.specs.declared.node.Handle.{Handle}
 use Rattle.render_values.specs.Arena.{flat, values_of}
 use Rattle.render_values.specs.Reading.{read_back}
 use Rattle.render_values.specs.Values.{Values, none as no_values}
 use Rattle.render_values.specs.declared.node.RenderNode.{RenderNode}
-use Rattle.style_cascade.specs.declared.rules.StyleRule.{StyleRule}
+use Rattle.dom_styles.specs.declared.rules.StyleRule.{StyleRule}
 use Rattle.render_conversion.specs.Conversion.{document_values, values}
 use Rattle.render_conversion.specs.Styles.{styles_of}
 use Rattle.render_conversion.specs.Turns.{later}

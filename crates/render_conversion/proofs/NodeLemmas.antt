@@ -1,8 +1,8 @@
 -- Nodes that aren't there.
 use Rattle.std.proofs.Common.{◌≡◌, ℕ, false, List, ◌++◌, ap, sym, ◌∙◌, append-nil}
 use Rattle.std.specs.Bool.{nat_lt}
-use Rattle.html_forest.specs.Forest.{Forest, document, kind_at, nodes}
-use Rattle.forest_trees.proofs.Depth.{kind_nowhere, test_false}
+use Rattle.tree_forest.specs.Forest.{Forest, document, kind_at, nodes}
+use Rattle.tree_forest.proofs.Depth.{kind_nowhere, test_false}
 use Rattle.render_conversion.specs.Titles.{own_text}
 
 -- they stand for documents

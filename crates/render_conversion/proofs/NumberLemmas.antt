@@ -1,7 +1,6 @@
 -- Numbers in attributes, beside what `parse` answers.
-use Rattle.std.proofs.Common.{◌≡◌, ◌≢◌, ℕ, suc, ◌-◌, ◌^◌, ◌<◌, ◌≤◌, ◌&&◌, ◌==◌, Bool, true, false, if◌then◌else◌}
-use Rattle.std.proofs.Common.{List, [], ◌∷◌}
-use Rattle.std.proofs.Common.{length, chars, IsUtf8, refl, sym, ap, ◌∙◌, arith, w64}
+use Rattle.std.proofs.Common.{◌≡◌, ◌≢◌, ◌-◌, ◌^◌, ◌<◌, ◌≤◌, ◌&&◌, ◌==◌, if◌then◌else◌, [], ◌∷◌, ◌∙◌, Bool, IsUtf8, List}
+use Rattle.std.proofs.Common.{ap, arith, chars, false, length, refl, suc, sym, true, w64, ℕ}
 use Rattle.std.specs.Prelude.{Option, None, Some, Result, Ok, Err, ℤ, pos, neg_ℤ}
 use Rattle.std.specs.Bool.{nat_le, nat_lt}
 use Rattle.std.specs.Char.{is_ascii_digit}
@@ -12,9 +11,9 @@ use Rattle.std.specs.Str.Parse.{ParsesSigned, ParsesUnsigned, digits_value}
 use Rattle.std.proofs.lemmas.Bool.Decides.{nat_tests}
 use Rattle.std.proofs.lemmas.Str.Parse.{IsNumeralModel, numerals_by_value, parse_plain, parse_plus, parse_signed_minus}
 use Rattle.std.proofs.lemmas.Str.Parse.{parse_signed_plain, parse_signed_plus, tells_all_ascii_digits}
-use Rattle.name_sets.specs.Sets.{is_ascii_word}
-use Rattle.name_sets.proofs.SetLemmas.{ascii_word}
-use Rattle.tree_words.proofs.WordLemmas.{word_chars}
+use Rattle.tree_names.specs.Sets.{is_ascii_word}
+use Rattle.tree_names.proofs.SetLemmas.{ascii_word}
+use Rattle.tree_predicates.proofs.WordLemmas.{word_chars}
 use Rattle.render_conversion.specs.Numbers.{negative, positive, read_digits, signed_of, unsigned_of}
 
 abbrev IsRead : (most : ℕ) → List ℕ → Type 0
@@ -140,9 +139,9 @@ not_read : (most : ℕ) (ds : List ℕ) → is_ascii_word ds ≡ false → read_
 not_read most ds h =
     read_none most ds (λ p. true_is_not_false (is_ascii_word ds) (digits_are_ascii ds p.0) h)
 
-behind_ascii : (c n : ℕ) (cs : List ℕ) → c ≡ n → nat_lt n 128 ≡ true → is_ascii_word (c ∷ cs) ≡ false
+after_ascii : (c n : ℕ) (cs : List ℕ) → c ≡ n → nat_lt n 128 ≡ true → is_ascii_word (c ∷ cs) ≡ false
     → is_ascii_word cs ≡ false
-behind_ascii c n cs e t h = by (nat_lt c 128) (ap (λ k. nat_lt k 128) e ∙ t) h where
+after_ascii c n cs e t h = by (nat_lt c 128) (ap (λ k. nat_lt k 128) e ∙ t) h where
   by : (b : Bool) → b ≡ true → (b && is_ascii_word cs) ≡ false → is_ascii_word cs ≡ false
   by true k f = f
   by false k f = cc
@@ -152,7 +151,7 @@ unsigned_none [] h = refl
 unsigned_none (c ∷ cs) h = by (c == 43) refl where
   by : (b : Bool) → (c == 43) ≡ b
       → (if b then read_digits (2 ^ 64 - 1) cs else read_digits (2 ^ 64 - 1) (c ∷ cs)) ≡ None
-  by true e = not_read (2 ^ 64 - 1) cs (behind_ascii c 43 cs (same_number c 43 e) refl h)
+  by true e = not_read (2 ^ 64 - 1) cs (after_ascii c 43 cs (same_number c 43 e) refl h)
   by false e = not_read (2 ^ 64 - 1) (c ∷ cs) h
 
 signed_none : (cs : List ℕ) → is_ascii_word cs ≡ false → signed_of cs ≡ None
@@ -162,8 +161,8 @@ signed_none (c ∷ cs) h = by (c == 45) (c == 43) refl refl where
       → (if a then negative (read_digits (2 ^ 63) cs)
       else if b then positive (read_digits (2 ^ 63 - 1) cs) else positive (read_digits (2 ^ 63 - 1) (c ∷ cs)))
       ≡ None
-  by true b e f = ap negative (not_read (2 ^ 63) cs (behind_ascii c 45 cs (same_number c 45 e) refl h))
-  by false true e f = ap positive (not_read (2 ^ 63 - 1) cs (behind_ascii c 43 cs (same_number c 43 f) refl h))
+  by true b e f = ap negative (not_read (2 ^ 63) cs (after_ascii c 45 cs (same_number c 45 e) refl h))
+  by false true e f = ap positive (not_read (2 ^ 63 - 1) cs (after_ascii c 43 cs (same_number c 43 f) refl h))
   by false false e f = ap positive (not_read (2 ^ 63 - 1) (c ∷ cs) h)
 
 ascii_chars : (bs : List ℕ) → IsUtf8 bs → is_ascii_word (chars bs) ≡ true → bs ≡ chars bs

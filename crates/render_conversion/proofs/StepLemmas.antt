@@ -1,12 +1,10 @@
 -- Turns that are taken.
-use Rattle.std.proofs.Common.{◌≡◌, ℕ, ◌+◌, ◌<◌, ◌≤◌, ◌&&◌, not, Bool, true, false, if◌then◌else◌, List, []}
-use Rattle.std.proofs.Common.{◌∷◌, ◌++◌}
-use Rattle.std.proofs.Common.{Result, Ok, Err, OnOk, length, take, drop, refl, sym, ap, subst, ◌∙◌, append_assoc}
-use Rattle.std.proofs.Common.{append-nil}
-use Rattle.std.proofs.Common.{length-append, arith}
+use Rattle.std.proofs.Common.{◌≡◌, ◌+◌, ◌<◌, ◌≤◌, ◌&&◌, if◌then◌else◌, [], ◌∷◌, ◌++◌, ◌∙◌, Bool, Err, List, Ok, OnOk}
+use Rattle.std.proofs.Common.{Result, ap, append-nil, append_assoc, arith, drop, false, length, length-append, not}
+use Rattle.std.proofs.Common.{refl, subst, sym, take, true, ℕ}
 use Rattle.std.proofs.lemmas.List.{take-append-le}
-use Rattle.forest_trees.specs.Trees.{node, steps, trees}
-use Rattle.html_forest.specs.Forest.{Forest, Kind, children_at, kind_at}
+use Rattle.tree_forest.specs.Trees.{node, steps, trees}
+use Rattle.tree_forest.specs.Forest.{Forest, Kind, children_at, kind_at}
 use Rattle.html_render_dom.specs.ChildNodes.{children_left}
 use Rattle.html_render_dom.specs.Numbers.{handle_of, number_of}
 use Rattle.html_render_dom.specs.declared.node.Handle.{Handle}
@@ -29,12 +27,12 @@ use Rattle.render_conversion.specs.Heads.{head_of}
 use Rattle.render_conversion.specs.Meanings.{meaning}
 use Rattle.render_conversion.specs.Places.{is_guarded, is_seen}
 use Rattle.render_conversion.specs.Styles.{Parts, Styles, parts_of}
-use Rattle.render_conversion.specs.Turns.{AreOpen, IsDone, behinds, later, visits, weight}
+use Rattle.render_conversion.specs.Turns.{AreOpen, IsDone, trailings, later, visits, weight}
 use Rattle.render_conversion.specs.declared.meaning.Meaning.{Meaning}
 use Rattle.render_conversion.specs.declared.place.Place.{Place}
 use Rattle.render_conversion.specs.declared.place.Place.TheVariants.{Cells, Flow, Groups, Items, Nowhere, Rows}
 use Rattle.render_conversion.specs.declared.turns.Turn.{Turn}
-use Rattle.render_conversion.specs.declared.turns.Turn.TheVariants.{Behind, Close, Row, Visit}
+use Rattle.render_conversion.specs.declared.turns.Turn.TheVariants.{After, Close, Row, Visit}
 
 abbrev pub Law : Forest → Type 0
 Law f = (n : ℕ) (ns : List ℕ) → trees f (n ∷ ns) ≡ node (kind_at n f) (trees f (children_at n f)) (trees f ns)
@@ -165,7 +163,7 @@ open_more : (xs ys : List RenderNode) (ts : List Turn) → AreOpen xs ts → Are
 open_more xs ys [] h = tt
 open_more xs ys (Visit n place ∷ ts) h = open_more xs ys ts h
 open_more xs ys (Row n others place ∷ ts) h = open_more xs ys ts h
-open_more xs ys (Behind n place ∷ ts) h = open_more xs ys ts h
+open_more xs ys (After n place ∷ ts) h = open_more xs ys ts h
 open_more xs ys (Close opened ∷ ts) h =
     let e = take-append-le opened.at xs ys (below opened.at (length xs) h.0) in
     let k = length-append xs ys in
@@ -178,11 +176,11 @@ flat_append xs ys h k =
     flat_by (xs ++ ys) (joined (values_of xs) (values_of ys))
     (sym (flat_joined (values_of xs) (values_of ys) ∙ (ap (λ l. l ++ flat (values_of ys)) h ∙ ap (λ l. xs ++ l) k)))
 
-closed_behind : (condition : Condition) (guarded : Bool) (xs : List RenderNode) (x : RenderNode) (ys : List RenderNode)
+closed_after : (condition : Condition) (guarded : Bool) (xs : List RenderNode) (x : RenderNode) (ys : List RenderNode)
     → closed_at (length xs) condition guarded (xs ++ x ∷ ys)
     ≡ xs ++ flat (ended (ending condition guarded x.head (values_of ys)) x.head (values_of ys) none)
-closed_behind condition guarded [] x ys = refl
-closed_behind condition guarded (z ∷ xs) x ys = ap (λ l. z ∷ l) (closed_behind condition guarded xs x ys)
+closed_after condition guarded [] x ys = refl
+closed_after condition guarded (z ∷ xs) x ys = ap (λ l. z ∷ l) (closed_after condition guarded xs x ys)
 
 flat_ended : (o : Outcome) (xs : List RenderNode) → IsFlat (ended_first o xs)
 flat_ended o [] = refl
@@ -267,11 +265,11 @@ hidden_done styles f n place ts xs style law is test h k =
     (sym (ap (λ (p : Parts). p.itself.hidden) is) ∙ test)) h k
 
 -- a text after a node's children
-behind_done : (styles : Styles) (f : Forest) (n : Handle) (place : Place) (ts : List Turn) (xs ys : List RenderNode)
+after_done : (styles : Styles) (f : Forest) (n : Handle) (place : Place) (ts : List Turn) (xs ys : List RenderNode)
     → AreOpen xs ts → IsFlat xs
     → ys ≡ xs ++ flat (content place (parts_of styles (kind_at (number_of n) f)).after)
-    → IsDone styles f (Behind n place ∷ ts) xs ts ys
-behind_done styles f n place ts xs ys h k e =
+    → IsDone styles f (After n place ∷ ts) xs ts ys
+after_done styles f n place ts xs ys h k e =
     let text = content place (parts_of styles (kind_at (number_of n) f)).after in
     record {
       same = ap (later styles f ts) e;
@@ -329,7 +327,7 @@ visit_done : (styles : Styles) (f : Forest) (n : Handle) (place : Place) (m : Me
     → (parts_of styles (kind_at (number_of n) f)).itself.hidden ≡ false → m ≡ meaning_at place f (number_of n)
     → guarded ≡ is_guarded place (kind_at (number_of n) f) → AreOpen xs ts → IsFlat xs
     → IsDone styles f (Visit n place ∷ ts) xs
-    (visits m.inner (children_at (number_of n) f) ++ Behind n m.inner
+    (visits m.inner (children_at (number_of n) f) ++ After n m.inner
     ∷ Close (record { at = length xs; condition = m.condition; guarded = guarded }) ∷ ts)
     ((xs ++ record {
       head = head_of m.info (parts_of styles (kind_at (number_of n) f)).itself.look (kind_at (number_of n) f);
@@ -350,16 +348,16 @@ visit_done styles f n place m guarded ts xs law seen shown means guards h k =
     let ends : closed opened ((start ++ flat inside) ++ flat after)
     ≡ xs ++ flat (valued m guarded kind s inside none) =
     ap (closed opened) (all_inside xs x before inside after)
-    ∙ (closed_behind m.condition guarded xs x (flat all)
+    ∙ (closed_after m.condition guarded xs x (flat all)
     ∙ ap (λ vs. xs ++ flat (ended (ending m.condition guarded head vs) head vs none)) (read_back all)) in
     let a = ap steps (law c []) in
-    let b = weight_visits f m.inner (children_at c f) (Behind n m.inner ∷ Close opened ∷ ts) law in
+    let b = weight_visits f m.inner (children_at c f) (After n m.inner ∷ Close opened ∷ ts) law in
     record {
-      same = later_visits styles f m.inner (children_at c f) (Behind n m.inner ∷ Close opened ∷ ts) start law
+      same = later_visits styles f m.inner (children_at c f) (After n m.inner ∷ Close opened ∷ ts) start law
           ∙ (ap (later styles f ts) ends
           ∙ ap (λ vs. later styles f ts (xs ++ flat vs))
           (sym (of_node styles f place c m guarded law seen shown means guards)));
-      opened = open_visits m.inner (children_at c f) (Behind n m.inner ∷ Close opened ∷ ts) start
+      opened = open_visits m.inner (children_at c f) (After n m.inner ∷ Close opened ∷ ts) start
           (new_open xs x (flat before) m.condition guarded ts k h);
       flat = new_flat xs head before k;
       falls = omega arith;
@@ -381,36 +379,36 @@ shown_none true place look = refl
 shown_none false place look = said_none place look
 
 -- a turn that says nothing
-later_behind : (styles : Styles) (f : Forest) (n : Handle) (place : Place) (ts : List Turn) (xs : List RenderNode)
+later_after : (styles : Styles) (f : Forest) (n : Handle) (place : Place) (ts : List Turn) (xs : List RenderNode)
     → content place (parts_of styles (kind_at (number_of n) f)).after ≡ none
-    → later styles f (Behind n place ∷ ts) xs ≡ later styles f ts xs
-later_behind styles f n place ts xs e =
+    → later styles f (After n place ∷ ts) xs ≡ later styles f ts xs
+later_after styles f n place ts xs e =
     ap (λ vs. later styles f ts (xs ++ flat vs)) e ∙ ap (later styles f ts) (append-nil xs)
 
-later_but : (styles : Styles) (f : Forest) (place : Place) (ns : List ℕ) (n : Handle) (behind : Place)
+later_but : (styles : Styles) (f : Forest) (place : Place) (ns : List ℕ) (n : Handle) (trailing : Place)
     (ts : List Turn) (xs : List RenderNode)
-    → content behind (parts_of styles (kind_at (number_of n) f)).after ≡ none
-    → later styles f (visits place ns ++ ts) xs ≡ later styles f (visits place ns ++ Behind n behind ∷ ts) xs
-later_but styles f place [] n behind ts xs e = sym (later_behind styles f n behind ts xs e)
-later_but styles f place (m ∷ ns) n behind ts xs e =
-    sym (later_behind styles f n behind ts
+    → content trailing (parts_of styles (kind_at (number_of n) f)).after ≡ none
+    → later styles f (visits place ns ++ ts) xs ≡ later styles f (visits place ns ++ After n trailing ∷ ts) xs
+later_but styles f place [] n trailing ts xs e = sym (later_after styles f n trailing ts xs e)
+later_but styles f place (m ∷ ns) n trailing ts xs e =
+    sym (later_after styles f n trailing ts
     (xs ++ flat (values styles place (trees f (number_of (handle_of m) ∷ children_left ns)))) e)
 
-open_but : (place : Place) (ns : List ℕ) (n : Handle) (behind : Place) (ts : List Turn) (xs : List RenderNode)
-    → AreOpen xs (visits place ns ++ Behind n behind ∷ ts) → AreOpen xs (visits place ns ++ ts)
-open_but place [] n behind ts xs h = h
-open_but place (m ∷ ns) n behind ts xs h = h
+open_but : (place : Place) (ns : List ℕ) (n : Handle) (trailing : Place) (ts : List Turn) (xs : List RenderNode)
+    → AreOpen xs (visits place ns ++ After n trailing ∷ ts) → AreOpen xs (visits place ns ++ ts)
+open_but place [] n trailing ts xs h = h
+open_but place (m ∷ ns) n trailing ts xs h = h
 
-lighter : (f : Forest) (place : Place) (ns : List ℕ) (n : Handle) (behind : Place) (ts : List Turn) (most : ℕ)
-    → weight f (visits place ns ++ Behind n behind ∷ ts) < most → weight f (visits place ns ++ ts) < most
-lighter f place [] n behind ts most h = omega arith
-lighter f place (m ∷ ns) n behind ts most h = omega arith
+lighter : (f : Forest) (place : Place) (ns : List ℕ) (n : Handle) (trailing : Place) (ts : List Turn) (most : ℕ)
+    → weight f (visits place ns ++ After n trailing ∷ ts) < most → weight f (visits place ns ++ ts) < most
+lighter f place [] n trailing ts most h = omega arith
+lighter f place (m ∷ ns) n trailing ts most h = omega arith
 
-but_behind : (styles : Styles) (f : Forest) (place : Place) (ns : List ℕ) (n : Handle) (ts old : List Turn)
+but_after : (styles : Styles) (f : Forest) (place : Place) (ns : List ℕ) (n : Handle) (ts old : List Turn)
     (xs zs : List RenderNode) (style : Parts) → style ≡ parts_of styles (kind_at (number_of n) f)
-    → style.after.content ≡ None → IsDone styles f old xs (visits place ns ++ Behind n place ∷ ts) zs
+    → style.after.content ≡ None → IsDone styles f old xs (visits place ns ++ After n place ∷ ts) zs
     → IsDone styles f old xs (visits place ns ++ ts) zs
-but_behind styles f place ns n ts old xs zs style is e done =
+but_after styles f place ns n ts old xs zs style is e done =
     let p = (parts_of styles (kind_at (number_of n) f)).after in
     let q : p.content ≡ None = ap (λ (s : Parts). s.after.content) (sym is) ∙ e in
     let says : content place p ≡ none =
@@ -422,14 +420,14 @@ but_behind styles f place ns n ts old xs zs style is e done =
       falls = lighter f place ns n place ts (weight f old) done.falls;
     }
 
-by_behind : (styles : Styles) (f : Forest) (place : Place) (ns : List ℕ) (n : Handle) (ts old : List Turn)
+by_after : (styles : Styles) (f : Forest) (place : Place) (ns : List ℕ) (n : Handle) (ts old : List Turn)
     (xs zs : List RenderNode) (style : Parts) (text : Option (List ℕ))
     → style ≡ parts_of styles (kind_at (number_of n) f) → style.after.content ≡ text
-    → IsDone styles f old xs (visits place ns ++ Behind n place ∷ ts) zs
-    → IsDone styles f old xs (visits place ns ++ (behinds n place text ++ ts)) zs
-by_behind styles f place ns n ts old xs zs style None is e done =
-    but_behind styles f place ns n ts old xs zs style is e done
-by_behind styles f place ns n ts old xs zs style (Some text) is e done = done
+    → IsDone styles f old xs (visits place ns ++ After n place ∷ ts) zs
+    → IsDone styles f old xs (visits place ns ++ (trailings n place text ++ ts)) zs
+by_after styles f place ns n ts old xs zs style None is e done =
+    but_after styles f place ns n ts old xs zs style is e done
+by_after styles f place ns n ts old xs zs style (Some text) is e done = done
 
 -- ---- at calls that may be refused
 
@@ -443,12 +441,12 @@ visit_ok : {A : Type 0} {E : Type 0} (r : Result A E) (styles : Styles) (f : For
     → ys ≡ xs ++ record { head = head_of m.info style.itself.look (kind_at (number_of n) f); below = 0 } ∷ []
     → zs ≡ ys ++ flat (content m.inner style.before)
     → one ≡ Close (record { at = at; condition = m.condition; guarded = guarded }) ∷ ts
-    → more ≡ Behind n m.inner ∷ one → OnOk r (new ≡ visits m.inner children ++ more)
+    → more ≡ After n m.inner ∷ one → OnOk r (new ≡ visits m.inner children ++ more)
     → OnOk r (IsDone styles f (Visit n place ∷ ts) xs new zs)
 visit_ok (Err e) styles f n place m guarded at ts one more new xs ys zs children style law seen is shown means guards
-    h k size kids made says closes behinds done = tt
+    h k size kids made says closes trailings done = tt
 visit_ok (Ok v) styles f n place m guarded at ts one more new xs ys zs children style law seen is shown means guards
-    h k size kids made says closes behinds done =
+    h k size kids made says closes trailings done =
     let c = number_of n in
     let kind = kind_at c f in
     let s = parts_of styles kind in
@@ -457,11 +455,11 @@ visit_ok (Ok v) styles f n place m guarded at ts one more new xs ys zs children 
     says ∙ (ap (λ l. l ++ flat (content m.inner style.before)) made
     ∙ ap (λ (p : Parts). (xs ++ record { head = head_of m.info p.itself.look kind; below = 0 } ∷ [])
     ++ flat (content m.inner p.before)) is) in
-    let turns : new ≡ visits m.inner (children_at c f) ++ Behind n m.inner
+    let turns : new ≡ visits m.inner (children_at c f) ++ After n m.inner
     ∷ Close (record { at = length xs; condition = m.condition; guarded = guarded }) ∷ ts =
     done ∙ (ap (λ l. visits m.inner l ++ more) kids
-    ∙ (ap (λ l. visits m.inner (children_at c f) ++ l) (behinds ∙ ap (λ l. Behind n m.inner ∷ l) closes)
-    ∙ ap (λ a. visits m.inner (children_at c f) ++ Behind n m.inner
+    ∙ (ap (λ l. visits m.inner (children_at c f) ++ l) (trailings ∙ ap (λ l. After n m.inner ∷ l) closes)
+    ∙ ap (λ a. visits m.inner (children_at c f) ++ After n m.inner
     ∷ Close (record { at = a; condition = m.condition; guarded = guarded }) ∷ ts) size)) in
     subst (λ l. IsDone styles f (Visit n place ∷ ts) xs new l) (sym nodes)
     (subst (λ l. IsDone styles f (Visit n place ∷ ts) xs l
@@ -470,7 +468,7 @@ visit_ok (Ok v) styles f n place m guarded at ts one more new xs ys zs children 
     (visit_done styles f n place m guarded ts xs law seen
     (sym (ap (λ (p : Parts). p.itself.hidden) is) ∙ shown) means guards h k))
 
-pub visit_behind : {A : Type 0} {E : Type 0} (r : Result A E) (styles : Styles) (f : Forest) (n : Handle)
+pub visit_after : {A : Type 0} {E : Type 0} (r : Result A E) (styles : Styles) (f : Forest) (n : Handle)
     (place : Place) (m : Meaning) (guarded : Bool) (at : ℕ) (ts one more new : List Turn)
     (xs ys zs : List RenderNode) (children : List ℕ) (style : Parts) → Law f
     → is_seen place (kind_at (number_of n) f) ≡ true → style ≡ parts_of styles (kind_at (number_of n) f)
@@ -480,26 +478,26 @@ pub visit_behind : {A : Type 0} {E : Type 0} (r : Result A E) (styles : Styles) 
     → ys ≡ xs ++ record { head = head_of m.info style.itself.look (kind_at (number_of n) f); below = 0 } ∷ []
     → zs ≡ ys ++ flat (content m.inner style.before)
     → one ≡ Close (record { at = at; condition = m.condition; guarded = guarded }) ∷ ts
-    → more ≡ behinds n m.inner style.after.content ++ one → OnOk r (new ≡ visits m.inner children ++ more)
+    → more ≡ trailings n m.inner style.after.content ++ one → OnOk r (new ≡ visits m.inner children ++ more)
     → OnOk r (IsDone styles f (Visit n place ∷ ts) xs new zs)
-visit_behind (Err e) styles f n place m guarded at ts one more new xs ys zs children style law seen is shown means
-    guards h k size kids made says closes behinds done = tt
-visit_behind {E = E} (Ok v) styles f n place m guarded at ts one more new xs ys zs children style law seen is shown
-    means guards h k size kids made says closes behind done =
+visit_after (Err e) styles f n place m guarded at ts one more new xs ys zs children style law seen is shown means
+    guards h k size kids made says closes trailings done = tt
+visit_after {E = E} (Ok v) styles f n place m guarded at ts one more new xs ys zs children style law seen is shown
+    means guards h k size kids made says closes trailing done =
     subst (λ l. IsDone styles f (Visit n place ∷ ts) xs l zs)
-    (sym (done ∙ ap (λ l. visits m.inner children ++ l) behind))
-    (by_behind styles f m.inner children n one (Visit n place ∷ ts) xs zs style style.after.content is refl
-    (visit_ok {E = E} (Ok v) styles f n place m guarded at ts one (Behind n m.inner ∷ one)
-    (visits m.inner children ++ Behind n m.inner ∷ one) xs ys zs children style law seen is shown means guards h k
+    (sym (done ∙ ap (λ l. visits m.inner children ++ l) trailing))
+    (by_after styles f m.inner children n one (Visit n place ∷ ts) xs zs style style.after.content is refl
+    (visit_ok {E = E} (Ok v) styles f n place m guarded at ts one (After n m.inner ∷ one)
+    (visits m.inner children ++ After n m.inner ∷ one) xs ys zs children style law seen is shown means guards h k
     size kids made says closes refl refl))
 
-pub behind_ok : {A : Type 0} {E : Type 0} (r : Result A E) (styles : Styles) (f : Forest) (n : Handle)
+pub after_ok : {A : Type 0} {E : Type 0} (r : Result A E) (styles : Styles) (f : Forest) (n : Handle)
     (place : Place) (ts : List Turn) (xs ys : List RenderNode) (style : Parts) → AreOpen xs ts → IsFlat xs
     → style ≡ parts_of styles (kind_at (number_of n) f) → OnOk r (ys ≡ xs ++ flat (content place style.after))
-    → OnOk r (IsDone styles f (Behind n place ∷ ts) xs ts ys)
-behind_ok (Err e) styles f n place ts xs ys style h k is done = tt
-behind_ok (Ok v) styles f n place ts xs ys style h k is done =
-    behind_done styles f n place ts xs ys h k
+    → OnOk r (IsDone styles f (After n place ∷ ts) xs ts ys)
+after_ok (Err e) styles f n place ts xs ys style h k is done = tt
+after_ok (Ok v) styles f n place ts xs ys style h k is done =
+    after_done styles f n place ts xs ys h k
     (done ∙ ap (λ (p : Parts). xs ++ flat (content place p.after)) is)
 
 pub close_by : {A : Type 0} {E : Type 0} (r : Result A E) (styles : Styles) (f : Forest) (turn : Turn)

@@ -3,13 +3,13 @@ use Rattle.std.proofs.Common.{◌≡◌, ℕ, List, [], ap, ◌∙◌}
 use Rattle.std.specs.Prelude.{Option, None, Some}
 use Rattle.html_lexemes.specs.declared.names.QualName.{QualName}
 use Rattle.html_render_dom.specs.Styled.{IsStyledBy}
-use Rattle.style_cascade.specs.Seen.{IsStyled}
-use Rattle.style_cascade.specs.Styles.{declared_at}
-use Rattle.style_cascade.specs.declared.computed.ComputedStyle.{ComputedStyle}
-use Rattle.style_cascade.specs.declared.computed.PlaceStyle.{PlaceStyle}
-use Rattle.style_cascade.specs.declared.rules.StylePlace.{StylePlace}
-use Rattle.style_cascade.specs.declared.rules.StylePlace.TheVariants.{After, Before, Itself}
-use Rattle.style_cascade.specs.declared.rules.StyleRule.{StyleRule}
+use Rattle.dom_styles.specs.Seen.{IsStyled}
+use Rattle.dom_styles.specs.Styles.{declared_at}
+use Rattle.dom_styles.specs.declared.computed.ComputedStyle.{ComputedStyle}
+use Rattle.dom_styles.specs.declared.computed.PlaceStyle.{PlaceStyle}
+use Rattle.dom_styles.specs.declared.rules.StylePlace.{StylePlace}
+use Rattle.dom_styles.specs.declared.rules.StylePlace.TheVariants.{After, Before, Itself}
+use Rattle.dom_styles.specs.declared.rules.StyleRule.{StyleRule}
 use Rattle.render_conversion.specs.Styles.{Part, Parts, part_at, parts_by, styles_of}
 
 abbrev pub Says : PlaceStyle → Part → Type 0

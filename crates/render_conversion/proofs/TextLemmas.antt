@@ -1,10 +1,10 @@
 -- Texts that are empty.
-use Rattle.std.proofs.Common.{◌≡◌, ℕ, true, false, List, [], ◌∷◌, length, ◌==◌, chars, IsUtf8, refl, sym, ap, ◌∙◌}
-use Rattle.std.proofs.Common.{arith}
+use Rattle.std.proofs.Common.{◌≡◌, [], ◌∷◌, ◌==◌, ◌∙◌, IsUtf8, List, ap, arith, chars, false, length, refl, sym, true}
+use Rattle.std.proofs.Common.{ℕ}
 use Rattle.std.specs.Prelude.{Option}
 use Rattle.std.proofs.lemmas.Bool.Decides.{nat_tests}
 use Rattle.std.proofs.lemmas.Str.{chars-nil}
-use Rattle.tagged_lines.proofs.Emptiness.{chars_nil}
+use Rattle.text_lines.proofs.Emptiness.{chars_nil}
 use Rattle.render_conversion.specs.Meanings.{imaged, leaf, nothing, or_empty}
 use Rattle.render_conversion.specs.declared.meaning.Meaning.{Meaning}
 use Rattle.render_values.specs.declared.info.RenderInfo.TheVariants.{Image}

@@ -1,10 +1,9 @@
 -- Texts of trees, read node by node.
-use Rattle.std.proofs.Common.{◌≡◌, ℕ, ◌+◌, ◌<◌, true, false, if◌then◌else◌, List, [], ◌∷◌, ◌++◌, refl}
-use Rattle.std.proofs.Common.{sym, ap}
-use Rattle.std.proofs.Common.{◌∙◌, append_assoc, append-nil, arith}
+use Rattle.std.proofs.Common.{◌≡◌, ◌+◌, ◌<◌, if◌then◌else◌, [], ◌∷◌, ◌++◌, ◌∙◌, List, ap, append-nil, append_assoc}
+use Rattle.std.proofs.Common.{arith, false, refl, sym, true, ℕ}
 use Rattle.std.specs.Prelude.{Some}
-use Rattle.forest_trees.specs.Trees.{Trees, followed_by, node, none, steps, trees}
-use Rattle.html_forest.specs.Forest.{Forest, children_at, kind_at}
+use Rattle.tree_forest.specs.Trees.{Trees, followed_by, node, none, steps, trees}
+use Rattle.tree_forest.specs.Forest.{Forest, children_at, kind_at}
 use Rattle.html_render_dom.specs.Numbers.{number_of}
 use Rattle.html_render_dom.specs.declared.node.Handle.{Handle}
 use Rattle.render_conversion.specs.Titles.{is_title, own_text, text_of, title_of}
@@ -32,15 +31,15 @@ pub next_text : (f : Forest) (whole old new waiting left mid later others : List
 next_text f whole old new waiting left mid later others n kids law order first others_put is put pushed so_far =
     let c = number_of n in
     let below = text_of (trees f (children_at c f)) in
-    let behind = text_of (trees f mid) in
-    let of_later : text_of (trees f later) ≡ below ++ behind =
+    let trailing = text_of (trees f mid) in
+    let of_later : text_of (trees f later) ≡ below ++ trailing =
     ap (λ l. text_of (trees f l)) (put ∙ ap (λ l. l ++ mid) is)
     ∙ (ap text_of (order (children_at c f) mid) ∙ text_then (trees f (children_at c f)) (trees f mid)) in
-    let of_waiting : text_of (trees f waiting) ≡ own_text (kind_at c f) ++ (below ++ behind) =
+    let of_waiting : text_of (trees f waiting) ≡ own_text (kind_at c f) ++ (below ++ trailing) =
     ap (λ l. text_of (trees f l)) (first ∙ ap (λ l. c ∷ l) (sym others_put)) ∙ ap text_of (law c mid) in
     ap (λ l. l ++ text_of (trees f later)) pushed
     ∙ (ap (λ l. (old ++ own_text (kind_at c f)) ++ l) of_later
-    ∙ (append_assoc old (own_text (kind_at c f)) (below ++ behind)
+    ∙ (append_assoc old (own_text (kind_at c f)) (below ++ trailing)
     ∙ (ap (λ l. old ++ l) (sym of_waiting) ∙ so_far)))
 
 pub fewer : (f : Forest) (waiting left mid later others : List ℕ) (n : Handle) (kids : List ℕ) → Law f → InOrder f
@@ -62,9 +61,9 @@ title_here f ns n rest law first title =
     ap (λ l. title_of (trees f l)) first ∙ (ap title_of (law n rest)
     ∙ ap (λ b. if b then Some (text_of (trees f (children_at n f))) else title_of (trees f rest)) title)
 
-pub title_behind : (f : Forest) (ns : List ℕ) (n : ℕ) (rest : List ℕ) → Law f → ns ≡ n ∷ rest
+pub title_after : (f : Forest) (ns : List ℕ) (n : ℕ) (rest : List ℕ) → Law f → ns ≡ n ∷ rest
     → is_title (kind_at n f) ≡ false → title_of (trees f ns) ≡ title_of (trees f rest)
-title_behind f ns n rest law first title =
+title_after f ns n rest law first title =
     ap (λ l. title_of (trees f l)) first ∙ (ap title_of (law n rest)
     ∙ ap (λ b. if b then Some (text_of (trees f (children_at n f))) else title_of (trees f rest)) title)
 

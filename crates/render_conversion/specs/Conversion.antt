@@ -2,10 +2,10 @@
 use Rattle.std.specs.Prelude.{ℕ, ◌&&◌, Bool, not, if◌then◌else◌, List, [], ◌∷◌, Option, None, Some}
 use Rattle.std.specs.Char.{is_whitespace}
 use Rattle.std.specs.List.{list_all}
-use Rattle.forest_trees.specs.Trees.{Trees, node, trees}
-use Rattle.forest_trees.specs.Trees as of_trees
-use Rattle.html_forest.specs.Forest.{Forest, Kind}
-use Rattle.style_cascade.specs.declared.rules.StyleRule.{StyleRule}
+use Rattle.tree_forest.specs.Trees.{Trees, node, trees}
+use Rattle.tree_forest.specs.Trees as of_trees
+use Rattle.tree_forest.specs.Forest.{Forest, Kind}
+use Rattle.dom_styles.specs.declared.rules.StyleRule.{StyleRule}
 use Rattle.render_values.specs.Endings.{ended, ending}
 use Rattle.render_values.specs.Values.{Values, joined, none, value}
 use Rattle.render_values.specs.declared.info.RenderInfo.TheVariants as infos

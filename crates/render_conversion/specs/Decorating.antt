@@ -1,13 +1,13 @@
 -- The rules of the program that mark emphasis, strong text, terms and code by characters around them.
 use Rattle.std.specs.Prelude.{ℕ, List, [], ◌∷◌, codes}
-use Rattle.style_cascade.specs.declared.cascade.Importance.TheVariants.{Default}
-use Rattle.style_cascade.specs.declared.cascade.StyleOrigin.{StyleOrigin}
-use Rattle.style_cascade.specs.declared.cascade.StyleOrigin.TheVariants.{Agent}
-use Rattle.style_cascade.specs.declared.rules.Style.TheVariants.{Content}
-use Rattle.style_cascade.specs.declared.rules.StyleDecl.{StyleDecl}
-use Rattle.style_cascade.specs.declared.rules.StylePlace.{StylePlace}
-use Rattle.style_cascade.specs.declared.rules.StylePlace.TheVariants.{After, Before}
-use Rattle.style_cascade.specs.declared.rules.StyleRule.{StyleRule}
+use Rattle.dom_styles.specs.declared.cascade.Importance.TheVariants.{Default}
+use Rattle.dom_styles.specs.declared.cascade.StyleOrigin.{StyleOrigin}
+use Rattle.dom_styles.specs.declared.cascade.StyleOrigin.TheVariants.{Agent}
+use Rattle.dom_styles.specs.declared.rules.Style.TheVariants.{Content}
+use Rattle.dom_styles.specs.declared.rules.StyleDecl.{StyleDecl}
+use Rattle.dom_styles.specs.declared.rules.StylePlace.{StylePlace}
+use Rattle.dom_styles.specs.declared.rules.StylePlace.TheVariants.{After, Before}
+use Rattle.dom_styles.specs.declared.rules.StyleRule.{StyleRule}
 
 pub record SeenRule : Type 0 where
   pub origin : StyleOrigin

@@ -1,7 +1,7 @@
 -- Which elements of HTML have a row of their own in the table of conversion.
 use Rattle.std.specs.Prelude.{ℕ, Bool, if◌then◌else◌, List, [], ◌∷◌, codes}
 use Rattle.html_lexemes.specs.declared.names.QualName.{QualName}
-use Rattle.name_sets.specs.Sets.{html_elements, is_element_of}
+use Rattle.tree_names.specs.Sets.{html_elements, is_element_of}
 use Rattle.render_conversion.specs.declared.element_names.ElementName.{ElementName}
 use Rattle.render_conversion.specs.declared.element_names.ElementName.TheVariants as elements
 

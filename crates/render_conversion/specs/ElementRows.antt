@@ -1,8 +1,8 @@
 -- Rows of the table of conversion, one for each element of HTML that it names, and for each kind of node.
 use Rattle.std.specs.Prelude.{◌≡◌, ℕ, List, [], ◌∷◌, codes, map}
-use Rattle.forest_trees.specs.Trees.{node}
-use Rattle.forest_trees.specs.Trees as of_trees
-use Rattle.html_forest.specs.Forest.{comment, doctype, document, instruction}
+use Rattle.tree_forest.specs.Trees.{node}
+use Rattle.tree_forest.specs.Trees as of_trees
+use Rattle.tree_forest.specs.Forest.{comment, doctype, document, instruction}
 use Rattle.render_values.specs.Values.{Values, none}
 use Rattle.render_values.specs.declared.info.RenderInfo.TheVariants as infos
 use Rattle.render_conversion.specs.RowTrees.{alone, attribute, beside, holding, html, shown, svg, without_rules, words}

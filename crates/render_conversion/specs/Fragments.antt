@@ -1,9 +1,9 @@
 -- The name of the fragment that starts in an element.
 use Rattle.std.specs.Prelude.{ℕ, if◌then◌else◌, List, [], ◌∷◌, Option, None, Some, codes}
-use Rattle.html_forest.specs.Forest.{Kind, comment, doctype, document, element, instruction, text}
+use Rattle.tree_forest.specs.Forest.{Kind, comment, doctype, document, element, instruction, text}
 use Rattle.html_lexemes.specs.declared.names.Attribute.{Attribute}
 use Rattle.html_lexemes.specs.declared.names.QualName.{QualName}
-use Rattle.tree_words.specs.Attributes.{value_of}
+use Rattle.tree_predicates.specs.Attributes.{value_of}
 use Rattle.render_conversion.specs.ElementNames.{is_one_of}
 
 -- its `id`; of an `a` without one its `name`

@@ -1,6 +1,6 @@
 -- Values without what stands in them.
 use Rattle.std.specs.Prelude.{Some}
-use Rattle.html_forest.specs.Forest.{Kind}
+use Rattle.tree_forest.specs.Forest.{Kind}
 use Rattle.text_pieces.specs.declared.white_space.WhiteSpace.TheVariants.{Pre}
 use Rattle.render_values.specs.Looks.{or_else}
 use Rattle.render_values.specs.declared.info.Head.{Head}

@@ -1,7 +1,7 @@
 -- Rows of the table of conversion: links, lists and tables.
 use Rattle.std.specs.Prelude.{◌≡◌, ℕ, List, [], ◌∷◌, ℤ, pos, neg_ℤ, codes}
-use Rattle.forest_trees.specs.Trees.{Trees}
-use Rattle.forest_trees.specs.Trees as of_trees
+use Rattle.tree_forest.specs.Trees.{Trees}
+use Rattle.tree_forest.specs.Trees as of_trees
 use Rattle.html_lexemes.specs.declared.names.Attribute.{Attribute}
 use Rattle.render_values.specs.Values.{Values, none}
 use Rattle.render_values.specs.declared.info.RenderInfo.TheVariants as infos

@@ -1,10 +1,10 @@
 -- The table of conversion: of each node the kind of its value, when it has it, and where its children stand.
 use Rattle.std.specs.Prelude.{ℕ, if◌then◌else◌, List, [], ◌∷◌, Option, None, Some, codes}
-use Rattle.forest_trees.specs.Trees.{Trees}
-use Rattle.html_forest.specs.Forest.{Kind, comment, doctype, document, element, instruction, text}
+use Rattle.tree_forest.specs.Trees.{Trees}
+use Rattle.tree_forest.specs.Forest.{Kind, comment, doctype, document, element, instruction, text}
 use Rattle.html_lexemes.specs.declared.names.Attribute.{Attribute}
 use Rattle.html_lexemes.specs.declared.names.QualName.{QualName}
-use Rattle.tree_words.specs.Attributes.{value_of}
+use Rattle.tree_predicates.specs.Attributes.{value_of}
 use Rattle.render_values.specs.declared.closing.Condition.{Condition}
 use Rattle.render_values.specs.declared.closing.Condition.TheVariants.{Always, AnyCell, AnyShown, AnyValue, Digits}
 use Rattle.render_values.specs.declared.closing.Condition.TheVariants.{Never}

@@ -1,6 +1,6 @@
 -- Numbers in attributes, as std's `parse` reads them.
-use Rattle.std.specs.Prelude.{ℕ, ◌-◌, ◌^◌, ◌&&◌, ◌==◌, if◌then◌else◌, List, [], ◌∷◌, Option, None, Some, ℤ, pos}
-use Rattle.std.specs.Prelude.{neg_ℤ, unwrap_or}
+use Rattle.std.specs.Prelude.{◌-◌, ◌^◌, ◌&&◌, ◌==◌, if◌then◌else◌, [], ◌∷◌, List, None, Option, Some, neg_ℤ, pos}
+use Rattle.std.specs.Prelude.{unwrap_or, ℕ, ℤ}
 use Rattle.std.specs.Bool.{nat_le}
 use Rattle.std.specs.Str.{all_ascii_digits}
 use Rattle.std.specs.Str.Parse.{digits_value}

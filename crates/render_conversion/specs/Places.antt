@@ -1,6 +1,6 @@
 -- Where a node stands, by what its parent makes of its children, and which nodes are looked at there.
 use Rattle.std.specs.Prelude.{ℕ, Bool, true, false, not, List, [], ◌∷◌, Option, None, Some, codes}
-use Rattle.html_forest.specs.Forest.{Kind}
+use Rattle.tree_forest.specs.Forest.{Kind}
 use Rattle.html_lexemes.specs.declared.names.QualName.{QualName}
 use Rattle.html_render_dom.specs.Asking.{name_of_kind}
 use Rattle.render_conversion.specs.ElementNames.{is_one_of}

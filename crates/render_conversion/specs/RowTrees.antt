@@ -1,8 +1,8 @@
 -- Trees and values to write rows with.
 use Rattle.std.specs.Prelude.{ℕ, false, List, [], None, Some}
-use Rattle.forest_trees.specs.Trees.{Trees, followed_by, node}
-use Rattle.forest_trees.specs.Trees as of_trees
-use Rattle.html_forest.specs.Forest.{element, text}
+use Rattle.tree_forest.specs.Trees.{Trees, followed_by, node}
+use Rattle.tree_forest.specs.Trees as of_trees
+use Rattle.tree_forest.specs.Forest.{element, text}
 use Rattle.html_lexemes.specs.declared.names.Attribute.{Attribute}
 use Rattle.html_lexemes.specs.declared.names.Namespace.TheVariants.{Html, Other, Svg}
 use Rattle.render_values.specs.Looks.{plain}

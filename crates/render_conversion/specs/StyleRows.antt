@@ -1,7 +1,7 @@
 -- Rows of the table of conversion: what rules of style say.
 use Rattle.std.specs.Prelude.{◌≡◌, ℕ, true, List, [], ◌∷◌, None, Some, bytes_eq, codes, if◌then◌else◌, pos}
-use Rattle.forest_trees.specs.Trees as of_trees
-use Rattle.text_marks.specs.declared.colour.Colour.{Colour}
+use Rattle.tree_forest.specs.Trees as of_trees
+use Rattle.text_decorators.specs.declared.colour.Colour.{Colour}
 use Rattle.text_pieces.specs.declared.white_space.WhiteSpace.TheVariants.{Normal, Pre}
 use Rattle.render_values.specs.Looks.{plain}
 use Rattle.render_values.specs.Values.{Values, none, value}
@@ -9,8 +9,8 @@ use Rattle.render_values.specs.declared.info.RenderInfo.{RenderInfo}
 use Rattle.render_values.specs.declared.info.RenderInfo.TheVariants as infos
 use Rattle.render_values.specs.declared.style.RenderStyle.{RenderStyle}
 use Rattle.render_conversion.specs.ListRows.{target}
-use Rattle.render_conversion.specs.RowTrees.{alone, attribute, beside, by_rules, holding, html, shown, words}
-use Rattle.render_conversion.specs.RowTrees.{without_rules}
+use Rattle.render_conversion.specs.RowTrees.{alone, attribute, beside, by_rules, holding, html, shown, without_rules}
+use Rattle.render_conversion.specs.RowTrees.{words}
 use Rattle.render_conversion.specs.Styles.{Part, Parts, Styles, all_unset, unset}
 
 -- rules for elements of one name

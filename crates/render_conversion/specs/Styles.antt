@@ -1,16 +1,16 @@
 -- What rules of style say of elements: how they look, whether they are hidden, and which texts stand before and after
 -- their children. Each is the declaration that holds in the cascade (CSS 2.2, 6.4).
 use Rattle.std.specs.Prelude.{ℕ, Bool, false, List, Option, None, Some, is_some, option_map}
-use Rattle.html_forest.specs.Forest.{Kind}
+use Rattle.tree_forest.specs.Forest.{Kind}
 use Rattle.html_lexemes.specs.declared.names.QualName.{QualName}
 use Rattle.html_render_dom.specs.Asking.{name_of_kind}
-use Rattle.style_cascade.specs.Cascade.{cascade}
-use Rattle.style_cascade.specs.Styles.{background_of, colour_of, content_of, declared_at, display_of, of_property}
-use Rattle.style_cascade.specs.Styles.{white_space_of}
-use Rattle.style_cascade.specs.declared.rules.Style.{Style}
-use Rattle.style_cascade.specs.declared.rules.StylePlace.{StylePlace}
-use Rattle.style_cascade.specs.declared.rules.StylePlace.TheVariants.{After, Before, Itself}
-use Rattle.style_cascade.specs.declared.rules.StyleRule.{StyleRule}
+use Rattle.dom_styles.specs.Cascade.{cascade}
+use Rattle.dom_styles.specs.Styles.{background_of, colour_of, content_of, declared_at, display_of, of_property}
+use Rattle.dom_styles.specs.Styles.{white_space_of}
+use Rattle.dom_styles.specs.declared.rules.Style.{Style}
+use Rattle.dom_styles.specs.declared.rules.StylePlace.{StylePlace}
+use Rattle.dom_styles.specs.declared.rules.StylePlace.TheVariants.{After, Before, Itself}
+use Rattle.dom_styles.specs.declared.rules.StyleRule.{StyleRule}
 use Rattle.render_values.specs.Looks.{plain}
 use Rattle.render_values.specs.declared.style.RenderStyle.{RenderStyle}
 

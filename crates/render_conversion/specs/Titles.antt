@@ -1,9 +1,9 @@
 -- Titles of drawings.
-use Rattle.std.specs.Prelude.{ℕ, ◌&&◌, Bool, true, false, if◌then◌else◌, List, [], ◌++◌, Option, None, Some, bytes_eq}
-use Rattle.std.specs.Prelude.{codes}
-use Rattle.forest_trees.specs.Trees.{Trees, node}
-use Rattle.forest_trees.specs.Trees as of_trees
-use Rattle.html_forest.specs.Forest.{Kind, comment, doctype, document, element, instruction, text}
+use Rattle.std.specs.Prelude.{◌&&◌, if◌then◌else◌, [], ◌++◌, Bool, List, None, Option, Some, bytes_eq, codes, false}
+use Rattle.std.specs.Prelude.{true, ℕ}
+use Rattle.tree_forest.specs.Trees.{Trees, node}
+use Rattle.tree_forest.specs.Trees as of_trees
+use Rattle.tree_forest.specs.Forest.{Kind, comment, doctype, document, element, instruction, text}
 use Rattle.html_lexemes.specs.declared.names.Namespace.{Namespace}
 use Rattle.html_lexemes.specs.declared.names.Namespace.TheVariants.{Html, MathMl, Other, Svg}
 use Rattle.html_lexemes.specs.declared.names.QualName.{QualName}

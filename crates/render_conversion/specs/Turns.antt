@@ -1,7 +1,7 @@
 -- What is still to be done while a page is converted.
 use Rattle.std.specs.Prelude.{◌≡◌, ℕ, ◌+◌, ◌<◌, List, [], ◌∷◌, ◌++◌, Option, None, Some, length, take}
-use Rattle.forest_trees.specs.Trees.{steps, trees}
-use Rattle.html_forest.specs.Forest.{Forest, kind_at}
+use Rattle.tree_forest.specs.Trees.{steps, trees}
+use Rattle.tree_forest.specs.Forest.{Forest, kind_at}
 use Rattle.html_render_dom.specs.ChildNodes.{children_left}
 use Rattle.html_render_dom.specs.Numbers.{handle_of, number_of}
 use Rattle.html_render_dom.specs.declared.node.Handle.{Handle}
@@ -12,7 +12,7 @@ use Rattle.render_conversion.specs.Conversion.{content, values}
 use Rattle.render_conversion.specs.Styles.{Styles, parts_of}
 use Rattle.render_conversion.specs.declared.place.Place.{Place}
 use Rattle.render_conversion.specs.declared.turns.Turn.{Turn}
-use Rattle.render_conversion.specs.declared.turns.Turn.TheVariants.{Behind, Close, Row, Visit}
+use Rattle.render_conversion.specs.declared.turns.Turn.TheVariants.{After, Close, Row, Visit}
 
 -- nodes, with all that is still to be done
 abbrev pub later : Styles → Forest → List Turn → List RenderNode → List RenderNode
@@ -21,7 +21,7 @@ later styles f (Visit n place ∷ ts) nodes =
     later styles f ts (nodes ++ flat (values styles place (trees f (number_of n ∷ []))))
 later styles f (Row n others place ∷ ts) nodes =
     later styles f ts (nodes ++ flat (values styles place (trees f (number_of n ∷ children_left others))))
-later styles f (Behind n place ∷ ts) nodes =
+later styles f (After n place ∷ ts) nodes =
     later styles f ts (nodes ++ flat (content place (parts_of styles (kind_at (number_of n) f)).after))
 later styles f (Close opened ∷ ts) nodes = later styles f ts (closed opened nodes)
 
@@ -30,7 +30,7 @@ abbrev pub AreOpen : List RenderNode → List Turn → Type 0
 AreOpen nodes [] = Unit {0}
 AreOpen nodes (Visit n place ∷ ts) = AreOpen nodes ts
 AreOpen nodes (Row n others place ∷ ts) = AreOpen nodes ts
-AreOpen nodes (Behind n place ∷ ts) = AreOpen nodes ts
+AreOpen nodes (After n place ∷ ts) = AreOpen nodes ts
 AreOpen nodes (Close opened ∷ ts) =
     (opened.at < length nodes) × (IsFlat (take opened.at nodes) × AreOpen (take opened.at nodes) ts)
 
@@ -39,7 +39,7 @@ abbrev pub weight : Forest → List Turn → ℕ
 weight f [] = 0
 weight f (Visit n place ∷ ts) = steps (trees f (number_of n ∷ [])) + weight f ts
 weight f (Row n others place ∷ ts) = steps (trees f (number_of n ∷ children_left others)) + weight f ts
-weight f (Behind n place ∷ ts) = 1 + weight f ts
+weight f (After n place ∷ ts) = 1 + weight f ts
 weight f (Close opened ∷ ts) = 1 + weight f ts
 
 -- nodes that are to be visited, in one turn
@@ -48,9 +48,9 @@ visits place [] = []
 visits place (n ∷ ns) = Row (handle_of n) ns place ∷ []
 
 -- a text that is to be put after a node's children, where there is one
-abbrev pub behinds : Handle → Place → Option (List ℕ) → List Turn
-behinds n place None = []
-behinds n place (Some text) = Behind n place ∷ []
+abbrev pub trailings : Handle → Place → Option (List ℕ) → List Turn
+trailings n place None = []
+trailings n place (Some text) = After n place ∷ []
 
 -- a turn was done: with what is left the nodes come to the same
 pub record IsDone (styles : Styles) (f : Forest) (old : List Turn) (before : List RenderNode) (new : List Turn)

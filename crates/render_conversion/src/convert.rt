@@ -9,10 +9,10 @@ use crate::error::RenderError;
 use crate::place::Place;
 use crate::turns::{Turn, Turns};
 use crate::walk::read_all;
+use dom_styles::StyleRule;
 use html_render_dom::RcDom;
 use render_values::{RenderNode, RenderTree};
 use std::alloc::{AllocError, Global};
-use style_cascade::StyleRule;
 
 /// The render tree of a page, by rules of style of which the last among equals holds. The error is `Fail` exactly where
 /// the page converts to nothing, else allocation failure.

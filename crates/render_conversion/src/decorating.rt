@@ -1,12 +1,12 @@
 //! Rules of the program that mark texts by characters around them.
 ghost use Rattle.std.specs.Prelude.{◌≡◌, ◌∷◌, ◌++◌, [], IfOk, IsTrue, OnOk, map};
-ghost use Rattle.name_sets.specs.Sets.{is_ascii_word};
+ghost use Rattle.tree_names.specs.Sets.{is_ascii_word};
 ghost use Rattle.render_conversion.specs.Decorating.{content_rule, decorating_rules, seen_rule};
-ghost use Rattle.style_cascade.specs.declared.rules.StylePlace.TheVariants.{After, Before};
+ghost use Rattle.dom_styles.specs.declared.rules.StylePlace.TheVariants.{After, Before};
 
+use dom_styles::{Importance, Style, StyleDecl, StyleOrigin, StylePlace, StyleRule};
 use html_lexemes::{LocalName, Text};
 use std::alloc::{AllocError, Global};
-use style_cascade::{Importance, Style, StyleDecl, StyleOrigin, StylePlace, StyleRule};
 
 // a word of ASCII characters as a text
 fn word(alloc: Global, word: &str) -> Result<Text, AllocError>

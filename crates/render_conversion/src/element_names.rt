@@ -3,7 +3,7 @@ ghost use Rattle.std.specs.Prelude.{◌≡◌};
 ghost use Rattle.render_conversion.specs.ElementNames.{block_name, element_name, heading_name, inline_name};
 
 use html_lexemes::QualName;
-use name_sets::{is_html, is_html_one_of};
+use tree_names::{is_html, is_html_one_of};
 
 /// The rows of the table for elements of HTML.
 #[derive(Clone, Copy, Debug, PartialEq, Eq)]

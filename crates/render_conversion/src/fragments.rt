@@ -1,14 +1,14 @@
 //! Fragments that start in elements.
 ghost use Rattle.std.specs.Prelude.{◌≡◌, IfOk, option_map};
-ghost use Rattle.html_forest.specs.Forest.{kind_at};
+ghost use Rattle.tree_forest.specs.Forest.{kind_at};
 ghost use Rattle.html_render_dom.specs.Numbers.{number_of};
 ghost use Rattle.render_conversion.specs.Fragments.{fragment_name, fragment_of};
 
 use html_lexemes::{Attributes, QualName, Text};
 use html_render_dom::{Handle, NodeData, RcDom};
-use name_sets::is_html;
 use std::alloc::AllocError;
-use tree_words::value_of;
+use tree_names::is_html;
+use tree_predicates::value_of;
 
 fn fragment_name<'a>(name: &QualName, attrs: &'a Attributes) -> Option<&'a Text>
     ensures { option_map (λ t. t.now) result ≡ fragment_name name.now attrs.now }

@@ -20,5 +20,3 @@ mod walk;
 pub use convert::dom_to_render_tree;
 pub use decorating::decorating_rules;
 pub use error::RenderError;
-pub use html_render_dom;
-pub use render_values;

@@ -1,8 +1,8 @@
 //! What a node means to a render tree.
 ghost use Rattle.std.specs.Prelude.{◌≡◌, [], IfOk, option_map};
-ghost use Rattle.forest_trees.specs.Trees.{trees};
-ghost use Rattle.html_forest.specs.Forest.{children_at, kind_at};
-ghost use Rattle.html_forest.specs.Orders.{IsForest};
+ghost use Rattle.tree_forest.specs.Trees.{trees};
+ghost use Rattle.tree_forest.specs.Forest.{children_at, kind_at};
+ghost use Rattle.tree_forest.specs.Orders.{IsForest};
 ghost use Rattle.html_render_dom.specs.Numbers.{number_of};
 ghost use Rattle.render_conversion.specs.Meanings.{cell, element_means, holds, imaged, leaf, linked, meaning, means};
 ghost use Rattle.render_conversion.specs.Meanings.{nothing, or_empty, pictured, row_of};
@@ -10,7 +10,7 @@ ghost use Rattle.render_conversion.specs.declared.element_names.ElementName.TheV
 ghost use Rattle.render_conversion.specs.declared.place.Place.TheVariants.{Flow};
 ghost use Rattle.render_values.specs.declared.closing.Condition.TheVariants.{AnyValue};
 ghost use Rattle.render_values.specs.declared.info.RenderInfo.TheVariants.{Container};
-ghost use Rattle.tree_words.specs.Attributes.{value_of};
+ghost use Rattle.tree_predicates.specs.Attributes.{value_of};
 
 use crate::element_names::{ElementName, element_name};
 use crate::numbers::{span_of, start_of};
@@ -20,7 +20,7 @@ use html_lexemes::{Attributes, QualName, Text};
 use html_render_dom::{Handle, NodeData, RcDom};
 use render_values::{Condition, RenderInfo, Title};
 use std::alloc::{AllocError, Global};
-use tree_words::value_of;
+use tree_predicates::value_of;
 
 /// What a node means.
 #[derive(Debug, Drop)]

@@ -1,12 +1,12 @@
 //! Where nodes stand.
 ghost use Rattle.std.specs.Prelude.{◌≡◌, IsTrue};
-ghost use Rattle.html_forest.specs.Forest.{kind_at};
+ghost use Rattle.tree_forest.specs.Forest.{kind_at};
 ghost use Rattle.html_render_dom.specs.Numbers.{number_of};
-ghost use Rattle.name_sets.specs.Sets.{are_ascii, words_of};
+ghost use Rattle.tree_names.specs.Sets.{are_ascii, words_of};
 ghost use Rattle.render_conversion.specs.Places.{is_element, is_guarded, is_seen};
 
 use html_render_dom::{Handle, RcDom};
-use name_sets::is_html_one_of;
+use tree_names::is_html_one_of;
 
 /// Where a node stands, by what its parent makes of its children.
 #[derive(Clone, Copy, Debug, PartialEq, Eq)]

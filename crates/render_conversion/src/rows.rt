@@ -1,29 +1,24 @@
 //! Rows of the table of conversion, computed on its definitions.
-ghost use Rattle.render_conversion.specs.ElementRows.{left_out_row, script_row, comment_row, empty_document_row};
-ghost use Rattle.render_conversion.specs.ElementRows.{document_row};
-ghost use Rattle.render_conversion.specs.ElementRows.{emphasis_row, strong_row, strikeout_row, code_row};
-ghost use Rattle.render_conversion.specs.ElementRows.{superscript_row, digits_row, nested_superscript_row};
-ghost use Rattle.render_conversion.specs.ElementRows.{two_texts_row, break_row, word_break_row, other_row};
-ghost use Rattle.render_conversion.specs.ElementRows.{lone_cell_row, foreign_row};
-ghost use Rattle.render_conversion.specs.ElementRows.{image_row, image_without_title_row, image_without_source_row};
-ghost use Rattle.render_conversion.specs.ElementRows.{drawing_row, drawing_without_title_row};
-ghost use Rattle.render_conversion.specs.ElementRows.{paragraph_row, division_row, headings_row, quote_row};
-ghost use Rattle.render_conversion.specs.ListRows.{link_row, link_without_target_row, empty_link_row};
-ghost use Rattle.render_conversion.specs.ListRows.{empty_link_with_fragment_row, link_round_fragment_row};
+ghost use Rattle.render_conversion.specs.ElementRows.{break_row, code_row, comment_row, digits_row, division_row};
+ghost use Rattle.render_conversion.specs.ElementRows.{document_row, drawing_row, drawing_without_title_row};
+ghost use Rattle.render_conversion.specs.ElementRows.{emphasis_row, empty_document_row, foreign_row, headings_row};
+ghost use Rattle.render_conversion.specs.ElementRows.{image_row, image_without_source_row, image_without_title_row};
+ghost use Rattle.render_conversion.specs.ElementRows.{left_out_row, lone_cell_row, nested_superscript_row, other_row};
+ghost use Rattle.render_conversion.specs.ElementRows.{paragraph_row, quote_row, script_row, strikeout_row, strong_row};
+ghost use Rattle.render_conversion.specs.ElementRows.{superscript_row, two_texts_row, word_break_row};
+ghost use Rattle.render_conversion.specs.ListRows.{bullets_row, descriptions_row, empty_link_row};
+ghost use Rattle.render_conversion.specs.ListRows.{empty_link_with_fragment_row, fragment_of_nothing_row};
+ghost use Rattle.render_conversion.specs.ListRows.{greater_start_row, least_start_row, link_round_fragment_row};
 ghost use Rattle.render_conversion.specs.ListRows.{link_round_image_row, link_round_image_without_title_row};
-ghost use Rattle.render_conversion.specs.ListRows.{link_with_two_names_row, name_of_another_row};
-ghost use Rattle.render_conversion.specs.ListRows.{fragment_of_nothing_row};
-ghost use Rattle.render_conversion.specs.ListRows.{bullets_row, other_items_row, list_of_nothing_row};
-ghost use Rattle.render_conversion.specs.ListRows.{list_of_nothing_with_fragment_row, start_row, no_start_row};
-ghost use Rattle.render_conversion.specs.ListRows.{signed_start_row, least_start_row, greater_start_row};
-ghost use Rattle.render_conversion.specs.ListRows.{no_number_row, descriptions_row};
-ghost use Rattle.render_conversion.specs.ListRows.{table_row, span_too_great_row, table_without_cells_row};
-ghost use Rattle.render_conversion.specs.ListRows.{link_round_table_row};
-ghost use Rattle.render_conversion.specs.StyleRows.{preformatted_row, preformatted_as_said_row, coloured_row};
-ghost use Rattle.render_conversion.specs.StyleRows.{coloured_digits_row, coloured_mark_row};
-ghost use Rattle.render_conversion.specs.StyleRows.{marks_row, marks_in_link_row, hidden_row, hidden_item_row};
-ghost use Rattle.render_conversion.specs.StyleRows.{hidden_mark_row, mark_in_item_row, mark_in_list_row};
-ghost use Rattle.render_conversion.specs.StyleRows.{mark_of_break_row};
+ghost use Rattle.render_conversion.specs.ListRows.{link_round_table_row, link_row, link_with_two_names_row};
+ghost use Rattle.render_conversion.specs.ListRows.{link_without_target_row, list_of_nothing_row};
+ghost use Rattle.render_conversion.specs.ListRows.{list_of_nothing_with_fragment_row, name_of_another_row};
+ghost use Rattle.render_conversion.specs.ListRows.{no_number_row, no_start_row, other_items_row, signed_start_row};
+ghost use Rattle.render_conversion.specs.ListRows.{span_too_great_row, start_row, table_row, table_without_cells_row};
+ghost use Rattle.render_conversion.specs.StyleRows.{coloured_digits_row, coloured_mark_row, coloured_row};
+ghost use Rattle.render_conversion.specs.StyleRows.{hidden_item_row, hidden_mark_row, hidden_row, mark_in_item_row};
+ghost use Rattle.render_conversion.specs.StyleRows.{mark_in_list_row, mark_of_break_row, marks_in_link_row, marks_row};
+ghost use Rattle.render_conversion.specs.StyleRows.{preformatted_as_said_row, preformatted_row};
 
 // documents, and what has no value
 fn rows_of_nodes()

@@ -1,23 +1,23 @@
 //! What rules of style say of nodes.
 ghost use Rattle.std.specs.Prelude.{◌≡◌, ℕ, List, [], Option, IsTrue, chars, false, is_some, option_map};
-ghost use Rattle.html_forest.specs.Forest.{kind_at};
+ghost use Rattle.tree_forest.specs.Forest.{kind_at};
 ghost use Rattle.html_lexemes.specs.declared.names.QualName.{QualName};
 ghost use Rattle.html_render_dom.specs.Numbers.{number_of};
 ghost use Rattle.html_render_dom.specs.Styled.{IsStyledBy};
-ghost use Rattle.style_cascade.specs.Seen.{IsStyled};
-ghost use Rattle.style_cascade.specs.Styles.{background_of, colour_of, content_of, declared_at, display_of};
-ghost use Rattle.style_cascade.specs.Styles.{white_space_of};
-ghost use Rattle.style_cascade.specs.declared.rules.StylePlace.{StylePlace};
-ghost use Rattle.style_cascade.specs.declared.rules.StyleRule.{StyleRule};
+ghost use Rattle.dom_styles.specs.Seen.{IsStyled};
+ghost use Rattle.dom_styles.specs.Styles.{background_of, colour_of, content_of, declared_at, display_of};
+ghost use Rattle.dom_styles.specs.Styles.{white_space_of};
+ghost use Rattle.dom_styles.specs.declared.rules.StylePlace.{StylePlace};
+ghost use Rattle.dom_styles.specs.declared.rules.StyleRule.{StyleRule};
 ghost use Rattle.render_conversion.specs.Heads.{look_of};
 ghost use Rattle.render_conversion.specs.Seen.{seen_part, seen_parts};
 ghost use Rattle.render_conversion.specs.Styles.{all_unset, declared, part_at, parts_by, parts_of, styles_of, unset};
 
+use dom_styles::{ComputedStyle, Display, PlaceStyle, StyleRule, the_cascade_is_a_function};
 use html_lexemes::{LocalName, Text};
 use html_render_dom::{Handle, RcDom};
 use render_values::{RenderInfo, RenderStyle};
-use style_cascade::{ComputedStyle, Display, PlaceStyle, StyleRule, the_cascade_is_a_function};
-use text_marks::Colour;
+use text_decorators::Colour;
 use text_pieces::WhiteSpace;
 
 /// What rules say of a place of an element.

@@ -1,18 +1,17 @@
 //! Titles of drawings.
-ghost use Rattle.std.specs.Prelude.{◌≡◌, ◌++◌, IfOk, IsTrue, OnOk, chars};
-ghost use Rattle.forest_trees.specs.Trees.{trees};
-ghost use Rattle.html_forest.specs.Forest.{children_at, kind_at};
-ghost use Rattle.html_forest.specs.Orders.{IsForest};
+ghost use Rattle.std.specs.Prelude.{◌≡◌, ◌++◌, IfOk, IsTrue, OnOk, bytes_eq, chars};
+ghost use Rattle.tree_forest.specs.Trees.{trees};
+ghost use Rattle.tree_forest.specs.Forest.{children_at, kind_at};
+ghost use Rattle.tree_forest.specs.Orders.{IsForest};
 ghost use Rattle.html_render_dom.specs.Numbers.{number_of};
-ghost use Rattle.name_sets.specs.Sets.{is_ascii_word};
-ghost use Rattle.std.specs.Prelude.{bytes_eq};
+ghost use Rattle.tree_names.specs.Sets.{is_ascii_word};
 ghost use Rattle.render_conversion.specs.Titles.{is_svg, is_title, own_text, text_of, title_of};
 
 use crate::waiting::Waiting;
-use forest_trees::{a_tree_goes_one_step_on, trees_stand_in_order};
 use html_lexemes::{Namespace, QualName, Text};
 use html_render_dom::{Handle, NodeData, RcDom};
 use std::alloc::{AllocError, Global};
+use tree_forest::{a_tree_goes_one_step_on, trees_stand_in_order};
 
 fn is_word(text: &str, word: &str) -> bool
     requires { IsTrue (is_ascii_word word.now) }

@@ -17,7 +17,7 @@ pub(crate) enum Turn<'a> {
     /// A node, and then those after it, which stand at a place.
     Row(Handle, ChildNodes<'a>, Place),
     /// The text that a rule puts after a node's children, which stand at a place.
-    Behind(Handle, Place),
+    After(Handle, Place),
     /// All that stands after a value is in it.
     Close(Opened),
 }

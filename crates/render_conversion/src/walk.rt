@@ -1,14 +1,14 @@
 //! A page's nodes, one after another.
 ghost use Rattle.std.specs.Prelude.{◌≡◌, ◌∷◌, ◌++◌, [], OnOk};
-ghost use Rattle.html_forest.specs.Forest.{kind_at};
-ghost use Rattle.html_forest.specs.Orders.{IsForest};
+ghost use Rattle.tree_forest.specs.Forest.{kind_at};
+ghost use Rattle.tree_forest.specs.Orders.{IsForest};
 ghost use Rattle.html_render_dom.specs.Numbers.{number_of};
 ghost use Rattle.render_values.specs.Arena.{IsFlat};
 ghost use Rattle.render_conversion.specs.Heads.{head_of};
 ghost use Rattle.render_conversion.specs.Styles.{styles_of};
 ghost use Rattle.render_conversion.specs.Seen.{seen_part};
-ghost use Rattle.render_conversion.specs.Turns.{AreOpen, IsDone, behinds, later};
-ghost use Rattle.render_conversion.specs.declared.turns.Turn.TheVariants.{Behind, Row, Visit};
+ghost use Rattle.render_conversion.specs.Turns.{AreOpen, IsDone, trailings, later};
+ghost use Rattle.render_conversion.specs.declared.turns.Turn.TheVariants.{After, Row, Visit};
 
 use crate::contents::say;
 use crate::fragments::fragment_of;
@@ -16,11 +16,11 @@ use crate::meaning::meaning_of;
 use crate::place::{Place, is_guarded, is_seen};
 use crate::styles::{PartStyle, look_of, style_of};
 use crate::turns::{Turn, Turns, push_visits};
-use forest_trees::a_tree_goes_one_step_on;
+use dom_styles::StyleRule;
 use html_render_dom::{ChildNodes, Handle, RcDom};
 use render_values::{Head, Opened, RenderInfo, RenderNode, RenderStyle, close};
 use std::alloc::{AllocError, Global};
-use style_cascade::StyleRule;
+use tree_forest::a_tree_goes_one_step_on;
 
 /// Does all that is still to be done. The error is allocation failure alone.
 pub(crate) fn read_all<'a>(
@@ -64,7 +64,7 @@ fn take<'a>(
         Turn::Row(node, others, place) => {
             visit_first(alloc, dom, rules, node, others, place, nodes, turns)
         }
-        Turn::Behind(node, place) => behind(alloc, dom, rules, node, place, nodes, turns),
+        Turn::After(node, place) => trailing(alloc, dom, rules, node, place, nodes, turns),
         Turn::Close(opened) => close(alloc, nodes, opened),
     }
 }
@@ -149,27 +149,27 @@ fn visit<'a>(
     push_head(dom, node, meaning.info, style.itself.look, nodes)?;
     say(alloc, nodes, inner, style.before)?;
     turns.push(Turn::Close(opened))?;
-    push_behind(turns, node, inner, style.after)?;
+    push_after(turns, node, inner, style.after)?;
     push_visits(turns, dom.children(node), inner)
 }
 
 // a turn for the text that a rule puts after a node's children, where there is one
-fn push_behind<'a>(
+fn push_after<'a>(
     turns: &mut Turns<'a>,
     node: Handle,
     place: Place,
     after: PartStyle<'_>,
 ) -> Result<(), AllocError>
-    ensures { OnOk result (turns.new ≡ behinds node place (seen_part after.entry).content ++ turns.old) }
+    ensures { OnOk result (turns.new ≡ trailings node place (seen_part after.entry).content ++ turns.old) }
 {
     if after.content.is_none() {
         return Ok(());
     }
-    turns.push(Turn::Behind(node, place))
+    turns.push(Turn::After(node, place))
 }
 
 // puts a text after a node's children
-fn behind<'a>(
+fn trailing<'a>(
     alloc: Global,
     dom: &'a RcDom,
     rules: &[StyleRule],
@@ -180,7 +180,7 @@ fn behind<'a>(
 ) -> Result<(), AllocError>
     requires ordered { AreOpen nodes.old.items turns.old }
     requires flat { IsFlat nodes.old.items }
-    ensures { OnOk result (IsDone (styles_of rules.now) dom.now.forest (Behind node place ∷ turns.old) nodes.old.items
+    ensures { OnOk result (IsDone (styles_of rules.now) dom.now.forest (After node place ∷ turns.old) nodes.old.items
         turns.new nodes.new.items) }
 {
     let style = style_of(dom, node, rules);

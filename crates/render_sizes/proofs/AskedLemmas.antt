@@ -1,14 +1,12 @@
 -- The columns that a layout asks for, of nodes in a row.
-use Rattle.std.proofs.Common.{◌≡◌, ℕ, suc, List, [], ◌∷◌, ◌++◌, length, take, drop, get_or}
-use Rattle.std.proofs.Common.{refl, sym, ap, ◌∙◌, append_assoc, append-nil, length-append, arith}
-use Rattle.std.proofs.Common.{inl, inr}
+use Rattle.std.proofs.Common.{◌≡◌, [], ◌∷◌, ◌++◌, ◌∙◌, List, ap, append-nil, append_assoc, arith, drop, get_or, inl}
+use Rattle.std.proofs.Common.{inr, length, length-append, refl, suc, sym, take, ℕ}
 use Rattle.std.proofs.Math.Seq.{drop-append_seam}
-use Rattle.render_values.specs.Arena.{IsFlat, behind, first, flat, values_of}
+use Rattle.render_values.specs.Arena.{IsFlat, trailing, first, flat, values_of}
 use Rattle.render_values.specs.Values.{Values, count, joined, none, value}
 use Rattle.render_values.specs.declared.info.Head.{Head}
 use Rattle.render_values.specs.declared.node.RenderNode.{RenderNode}
-use Rattle.render_values.proofs.ArenaLemmas.{below_is, flat_by, flat_rest, length_flat}
-use Rattle.render_values.proofs.ArenaLemmas.{next_values, rest_is}
+use Rattle.render_values.proofs.ArenaLemmas.{below_is, flat_by, flat_rest, length_flat, next_values, rest_is}
 use Rattle.render_values.specs.Reading.{read_back}
 use Rattle.render_sizes.specs.Asked.{AreMeasured, asked_as, asked_extents, asked_of}
 use Rattle.render_sizes.specs.Extents.{Measure, extent_of, extents, nothing_wide}
@@ -29,10 +27,10 @@ asked_joined m (value head inside rest) ws =
 -- what is asked of the nodes after a node: of those that stand in it, and of those that follow it
 pub asked_split : (m : Measure) (x : RenderNode) (xs : List RenderNode) → IsFlat (x ∷ xs)
     → asked_extents m (values_of xs)
-    ≡ asked_extents m (first x.below (values_of xs)) ++ asked_extents m (behind x.below (values_of xs))
+    ≡ asked_extents m (first x.below (values_of xs)) ++ asked_extents m (trailing x.below (values_of xs))
 asked_split m x xs h =
     ap (asked_extents m) (sym (rest_values x xs h))
-    ∙ asked_joined m (first x.below (values_of xs)) (behind x.below (values_of xs))
+    ∙ asked_joined m (first x.below (values_of xs)) (trailing x.below (values_of xs))
 
 -- ---- one value more
 
@@ -42,7 +40,7 @@ pub passed : (m : Measure) (x : RenderNode) (xs : List RenderNode) (old new : Li
     → new ++ asked_extents m (values_of xs) ≡ old ++ asked_extents m (values_of (x ∷ xs))
 passed m x xs old new h asks is =
     let k = first x.below (values_of xs) in
-    let r = behind x.below (values_of xs) in
+    let r = trailing x.below (values_of xs) in
     ap (λ l. l ++ asked_extents m (values_of xs)) is
     ∙ (append_assoc old (nothing_wide ∷ []) (asked_extents m (values_of xs))
     ∙ (ap (λ l. old ++ (nothing_wide ∷ l)) (asked_split m x xs h)
@@ -55,7 +53,7 @@ pub entered : (m : Measure) (x : RenderNode) (xs inside rest : List RenderNode) 
     → new ++ asked_extents m (values_of rest) ≡ old ++ asked_extents m (values_of (x ∷ xs))
 entered m x xs inside rest old one new h asks first_is cut is later =
     let k = first x.below (values_of xs) in
-    let r = behind x.below (values_of xs) in
+    let r = trailing x.below (values_of xs) in
     let inner : values_of inside ≡ k = ap values_of cut ∙ inner_values x xs h in
     let next : values_of rest ≡ r = ap values_of later ∙ next_values x xs h in
     ap (λ l. new ++ asked_extents m l) next
@@ -85,7 +83,7 @@ pub measured_whole : (m : Measure) (x : RenderNode) (xs value_nodes rest : List 
     → new ++ asked_extents m (values_of rest) ≡ old ++ asked_extents m (values_of (x ∷ xs))
 measured_whole m x xs value_nodes rest old new h asks cut is later =
     let k = first x.below (values_of xs) in
-    let r = behind x.below (values_of xs) in
+    let r = trailing x.below (values_of xs) in
     let own : values_of value_nodes ≡ value x.head k none =
     ap values_of (cut ∙ own_nodes x xs h) ∙ read_back (value x.head k none) in
     let next : values_of rest ≡ r = ap values_of later ∙ next_values x xs h in
@@ -164,11 +162,11 @@ drop_front n es one later is long =
 
 -- all nodes have their columns
 long_by : (m : Measure) (x : RenderNode) (xs : List RenderNode) (es one : List Extent) → IsFlat (x ∷ xs)
-    → es ≡ one ++ asked_extents m (behind x.below (values_of xs)) → length one ≡ suc x.below
+    → es ≡ one ++ asked_extents m (trailing x.below (values_of xs)) → length one ≡ suc x.below
     → length es ≡ suc (length xs)
 long_by m x xs es one h is front =
     let k = first x.below (values_of xs) in
-    let r = behind x.below (values_of xs) in
+    let r = trailing x.below (values_of xs) in
     omega (
       arith,
       ap length is,
@@ -185,11 +183,11 @@ long_by m x xs es one h is front =
 found_as : (a : Asked) (m : Measure) (x : RenderNode) (xs : List RenderNode) (es : List Extent) → IsFlat (x ∷ xs)
     → asked_of x.head.info ≡ a
     → es ≡ asked_as a m x.head (first x.below (values_of xs)) (asked_extents m (first x.below (values_of xs)))
-    ++ asked_extents m (behind x.below (values_of xs))
+    ++ asked_extents m (trailing x.below (values_of xs))
     → Found m x xs es
 found_as Itself m x xs es h asks is =
     let k = first x.below (values_of xs) in
-    let r = behind x.below (values_of xs) in
+    let r = trailing x.below (values_of xs) in
     let long = length_extents m k ∙ below_is x xs h in
     let inner = take_front x.below (drop 1 es) (extents m k) (asked_extents m r) (ap (drop 1) is) long in
     record {
@@ -202,7 +200,7 @@ found_as Itself m x xs es h asks is =
     }
 found_as Inside m x xs es h asks is =
     let k = first x.below (values_of xs) in
-    let r = behind x.below (values_of xs) in
+    let r = trailing x.below (values_of xs) in
     let long = length_extents m k ∙ below_is x xs h in
     let inner = take_front x.below (drop 1 es) (extents m k) (asked_extents m r) (ap (drop 1) is) long in
     record {
@@ -218,7 +216,7 @@ found_as Inside m x xs es h asks is =
     differs e = cc e
 found_as Nothing m x xs es h asks is =
     let k = first x.below (values_of xs) in
-    let r = behind x.below (values_of xs) in
+    let r = trailing x.below (values_of xs) in
     let long = length_asked m k ∙ below_is x xs h in
     let inner = take_front x.below (drop 1 es) (asked_extents m k) (asked_extents m r) (ap (drop 1) is) long in
     record {

@@ -1,18 +1,17 @@
 -- Columns of values in a row.
-use Rattle.std.proofs.Common.{◌≡◌, ℕ, zero, suc, ◌+◌, ◌-◌, ◌^◌, ◌<◌, ◌≤◌, List, [], ◌∷◌, ◌++◌, length, take, drop}
-use Rattle.std.proofs.Common.{get_or, max}
-use Rattle.std.proofs.Common.{refl, sym, ap, subst, ◌∙◌, append_assoc, length-append, arith}
+use Rattle.std.proofs.Common.{◌≡◌, ◌+◌, ◌-◌, ◌^◌, ◌<◌, ◌≤◌, [], ◌∷◌, ◌++◌, ◌∙◌, List, ap, append_assoc, arith, drop}
+use Rattle.std.proofs.Common.{get_or, length, length-append, max, refl, subst, suc, sym, take, zero, ℕ}
 use Rattle.std.specs.Prelude.{Result, Ok, Err, IfOk}
 use Rattle.std.proofs.Math.ListN.{set}
 use Rattle.std.proofs.Math.Seq.{drop-append_seam}
-use Rattle.render_values.specs.Arena.{IsFlat, behind, first, flat, values_of}
+use Rattle.render_values.specs.Arena.{IsFlat, trailing, first, flat, values_of}
 use Rattle.render_sizes.specs.Extents.{Measure, beside, capped, extent, extent_by, extent_of, extents, first_extent}
 use Rattle.render_sizes.specs.Extents.{measured, nothing_wide, number}
 use Rattle.render_values.specs.Values.{Values, count, joined, none, value}
 use Rattle.render_sizes.specs.declared.extent.Extent.{Extent}
 use Rattle.render_values.specs.declared.node.RenderNode.{RenderNode}
-use Rattle.render_values.proofs.ArenaLemmas.{below_is, flat_by, flat_drop, flat_joined, length_flat}
-use Rattle.render_values.proofs.ArenaLemmas.{next_values, rest_is}
+use Rattle.render_values.proofs.ArenaLemmas.{below_is, flat_by, flat_drop, flat_joined, length_flat, next_values}
+use Rattle.render_values.proofs.ArenaLemmas.{rest_is}
 use Rattle.render_values.specs.Reading.{read_back}
 
 pub length_extents : (m : Measure) (vs : Values) → length (extents m vs) ≡ count vs
@@ -32,10 +31,10 @@ extents_joined m (value head inside rest) ws =
 
 -- what stands in a node and what follows it are what follows the node in the row
 pub rest_values : (x : RenderNode) (xs : List RenderNode) → IsFlat (x ∷ xs)
-    → joined (first x.below (values_of xs)) (behind x.below (values_of xs)) ≡ values_of xs
+    → joined (first x.below (values_of xs)) (trailing x.below (values_of xs)) ≡ values_of xs
 rest_values x xs h =
     let k = first x.below (values_of xs) in
-    let r = behind x.below (values_of xs) in
+    let r = trailing x.below (values_of xs) in
     sym (read_back (joined k r)) ∙ ap values_of (flat_joined k r ∙ rest_is x xs h)
 
 pub take_seam : {A : Type 0} (xs ys : List A) → take (length xs) (xs ++ ys) ≡ xs
@@ -47,7 +46,7 @@ pub inner_nodes : (x : RenderNode) (xs : List RenderNode) → IsFlat (x ∷ xs)
     → take x.below xs ≡ flat (first x.below (values_of xs))
 inner_nodes x xs h =
     let k = first x.below (values_of xs) in
-    let r = behind x.below (values_of xs) in
+    let r = trailing x.below (values_of xs) in
     ap (λ n. take n xs) (sym (below_is x xs h) ∙ sym (length_flat k))
     ∙ (ap (take (length (flat k))) (sym (rest_is x xs h)) ∙ take_seam (flat k) (flat r))
 
@@ -61,10 +60,10 @@ inner_values x xs h = ap values_of (inner_nodes x xs h) ∙ read_back (first x.b
 -- the columns of all nodes after a node are those of what stands in it, and of what follows it
 pub extents_split : (m : Measure) (x : RenderNode) (xs : List RenderNode) → IsFlat (x ∷ xs)
     → extents m (values_of xs)
-    ≡ extents m (first x.below (values_of xs)) ++ extents m (behind x.below (values_of xs))
+    ≡ extents m (first x.below (values_of xs)) ++ extents m (trailing x.below (values_of xs))
 extents_split m x xs h =
     ap (extents m) (sym (rest_values x xs h))
-    ∙ extents_joined m (first x.below (values_of xs)) (behind x.below (values_of xs))
+    ∙ extents_joined m (first x.below (values_of xs)) (trailing x.below (values_of xs))
 
 size_is : (m : Measure) (x : RenderNode) (xs : List RenderNode) → IsFlat (x ∷ xs)
     → x.below ≡ length (extents m (first x.below (values_of xs)))
@@ -74,7 +73,7 @@ pub inner_extents : (m : Measure) (x : RenderNode) (xs : List RenderNode) (es : 
     → es ≡ extents m (values_of xs) → take x.below es ≡ extents m (values_of (take x.below xs))
 inner_extents m x xs es h e =
     let k = first x.below (values_of xs) in
-    let r = behind x.below (values_of xs) in
+    let r = trailing x.below (values_of xs) in
     ap (take x.below) (e ∙ extents_split m x xs h)
     ∙ (ap (λ n. take n (extents m k ++ extents m r)) (size_is m x xs h)
     ∙ (take_seam (extents m k) (extents m r) ∙ ap (extents m) (sym (inner_values x xs h))))
@@ -83,16 +82,16 @@ pub next_extents : (m : Measure) (x : RenderNode) (xs : List RenderNode) (es : L
     → es ≡ extents m (values_of xs) → drop x.below es ≡ extents m (values_of (drop x.below xs))
 next_extents m x xs es h e =
     let k = first x.below (values_of xs) in
-    let r = behind x.below (values_of xs) in
+    let r = trailing x.below (values_of xs) in
     ap (drop x.below) (e ∙ extents_split m x xs h)
     ∙ (ap (λ n. drop n (extents m k ++ extents m r)) (size_is m x xs h)
     ∙ (drop-append_seam (extents m k) (extents m r) ∙ ap (extents m) (sym (next_values x xs h))))
 
-pub behind_fits : (m : Measure) (x : RenderNode) (xs : List RenderNode) (es : List Extent) → IsFlat (x ∷ xs)
+pub after_fits : (m : Measure) (x : RenderNode) (xs : List RenderNode) (es : List Extent) → IsFlat (x ∷ xs)
     → es ≡ extents m (values_of xs) → x.below ≤ length es
-behind_fits m x xs es h e =
+after_fits m x xs es h e =
     let k = first x.below (values_of xs) in
-    let r = behind x.below (values_of xs) in
+    let r = trailing x.below (values_of xs) in
     let a = size_is m x xs h in
     let b = ap length (e ∙ extents_split m x xs h) in
     let c = length-append (extents m k) (extents m r) in
@@ -154,14 +153,14 @@ pub left_some : (m : Measure) (rest : List RenderNode) (x : RenderNode) (xs : Li
 left_some m rest x xs left e h same =
     let a = ap length (left_is m rest x xs left e h same) in omega arith
 
-pub left_behind : (m : Measure) (rest : List RenderNode) (x : RenderNode) (xs : List RenderNode) (left : List Extent)
+pub left_after : (m : Measure) (rest : List RenderNode) (x : RenderNode) (xs : List RenderNode) (left : List Extent)
     → rest ≡ x ∷ xs → IsFlat rest → left ≡ extents m (values_of rest) → drop 1 left ≡ extents m (values_of xs)
-left_behind m rest x xs left e h same = ap (drop 1) (left_is m rest x xs left e h same)
+left_after m rest x xs left e h same = ap (drop 1) (left_is m rest x xs left e h same)
 
 pub left_next : (m : Measure) (rest : List RenderNode) (x : RenderNode) (xs : List RenderNode)
     (left next : List Extent) → rest ≡ x ∷ xs → IsFlat rest → left ≡ extents m (values_of rest) → next ≡ drop 1 left
     → next ≡ extents m (values_of xs)
-left_next m rest x xs left next e h same is = is ∙ left_behind m rest x xs left e h same
+left_next m rest x xs left next e h same is = is ∙ left_after m rest x xs left e h same
 
 -- one value more
 pub sum_on : (m : Measure) (rest : List RenderNode) (x : RenderNode) (xs : List RenderNode) (left : List Extent)
@@ -211,10 +210,10 @@ pub drop_some : {A : Type 0} (i : ℕ) (xs rest : List A) → rest ≡ drop i xs
 drop_some i xs rest e h = subst (λ l. 0 < length l) (sym e) (drop_none i xs h)
 
 -- what stands after a place is measured
-pub behind_measured : (m : Measure) (at i : ℕ) (nodes rest : List RenderNode) (es later : List Extent) → at ≡ suc i
+pub after_measured : (m : Measure) (at i : ℕ) (nodes rest : List RenderNode) (es later : List Extent) → at ≡ suc i
     → rest ≡ drop i nodes → later ≡ drop at es → drop at es ≡ extents m (values_of (drop at nodes))
     → later ≡ extents m (values_of (drop 1 rest))
-behind_measured m at i nodes rest es later e is l same =
+after_measured m at i nodes rest es later e is l same =
     l ∙ (same ∙ (ap (λ n. extents m (values_of (drop n nodes))) e
     ∙ sym (ap (λ k. extents m (values_of (drop 1 k))) is ∙ ap (λ k. extents m (values_of k)) (drop_next i nodes))))
 
@@ -234,9 +233,9 @@ measured_on m at i nodes rest es one e h size flat is made same =
     ∙ (ap (λ l. first_extent m (values_of (drop i nodes)) ∷ l) later
     ∙ sym (extents_first m (drop i nodes) (flat_drop i nodes flat) (drop_none i nodes h))))
 
-pub measured_behind : (m : Measure) (nodes : List RenderNode) (x : RenderNode) (xs : List RenderNode)
+pub measured_after : (m : Measure) (nodes : List RenderNode) (x : RenderNode) (xs : List RenderNode)
     (es : List Extent) → nodes ≡ x ∷ xs → es ≡ extents m (values_of (drop 1 nodes)) → es ≡ extents m (values_of xs)
-measured_behind m nodes x xs es e same = same ∙ ap (λ l. extents m (values_of (drop 1 l))) e
+measured_after m nodes x xs es e same = same ∙ ap (λ l. extents m (values_of (drop 1 l))) e
 
 pub sum_fits : (a b new : Extent) → new ≡ beside a b → new.size ≤ 2 ^ 64 - 1
 sum_fits a b new e = subst (λ (x : Extent). x.size ≤ 2 ^ 64 - 1) (sym e) (fits (a.size + b.size)) where
@@ -256,10 +255,10 @@ next_down n h = omega arith
 pub number_next : (rest : List RenderNode) (x : RenderNode) (xs later : List RenderNode) (count new all : ℕ)
     → rest ≡ x ∷ xs → IsFlat rest → later ≡ drop x.below xs → new ≡ count + 1
     → count + number (values_of rest) ≡ all → new + number (values_of later) ≡ all
-number_next rest x xs later count new all e h behind_it more so_far =
+number_next rest x xs later count new all e h after_it more so_far =
     let a = ap (λ l. number (values_of l)) e in
     let b = ap number (next_values x xs (subst IsFlat e h)) in
-    let c = ap (λ l. number (values_of l)) behind_it in
+    let c = ap (λ l. number (values_of l)) after_it in
     omega arith
 
 pub number_done : (rest : List RenderNode) (count all : ℕ) → length rest ≡ 0 → count + number (values_of rest) ≡ all

@@ -1,21 +1,21 @@
 -- Rows and cells among nodes, in one pass.
-use Rattle.std.proofs.Common.{◌≡◌, ℕ, suc, ◌+◌, ◌≤◌, Bool, true, false, cond, nat_lt, if◌then◌else◌}
-use Rattle.std.proofs.Common.{List, [], ◌∷◌, ◌++◌, length, drop, get_or, map, filter, max}
-use Rattle.std.proofs.Common.{refl, sym, ap, subst, ◌∙◌, append_assoc, append-nil, length-drop, arith}
+use Rattle.std.proofs.Common.{◌≡◌, ◌+◌, ◌≤◌, if◌then◌else◌, [], ◌∷◌, ◌++◌, ◌∙◌, Bool, List, ap, append-nil}
+use Rattle.std.proofs.Common.{append_assoc, arith, cond, drop, false, filter, get_or, length, length-drop, map, max}
+use Rattle.std.proofs.Common.{nat_lt, refl, subst, suc, sym, true, ℕ}
 use Rattle.std.proofs.lemmas.List.{map-append}
-use Rattle.render_values.specs.Arena.{IsFlat, behind, first, values_of}
+use Rattle.render_values.specs.Arena.{IsFlat, trailing, first, values_of}
 use Rattle.render_values.specs.Values.{Values, joined, none, value}
 use Rattle.render_values.specs.declared.info.RenderInfo.{RenderInfo}
 use Rattle.render_values.specs.declared.info.RenderInfo.TheVariants as infos
 use Rattle.render_values.specs.declared.node.RenderNode.{RenderNode}
 use Rattle.render_values.proofs.ArenaLemmas.{below_fits, flat_drop, flat_rest, next_values}
-use Rattle.render_sizes.specs.Extents.{Measure, cells_by, extent_by, extent_of, extents, in_rows, lowered}
-use Rattle.render_sizes.specs.Extents.{measured, number, rows_by}
-use Rattle.render_sizes.specs.RowCells.{cells_told, rows_told, skipped}
+use Rattle.render_sizes.specs.Extents.{Measure, cells_by, extent_by, extent_of, extents, in_rows, lowered, measured}
+use Rattle.render_sizes.specs.Extents.{number, rows_by}
+use Rattle.render_sizes.specs.RowCells.{cells_emitted, rows_emitted, skipped}
 use Rattle.render_sizes.specs.Sound.{AreTableCells}
 use Rattle.render_sizes.specs.declared.extent.Extent.{Extent}
-use Rattle.render_sizes.proofs.ExtentLemmas.{left_behind, left_is, next_extents, rest_values}
-use Rattle.table_places.specs.declared.cell.Cell.{Cell}
+use Rattle.render_sizes.proofs.ExtentLemmas.{left_after, left_is, next_extents, rest_values}
+use Rattle.table_grid.specs.declared.cell.Cell.{Cell}
 
 -- the cells that stand in rows, where so many rows came before
 abbrev pub counted : ℕ → List Cell → List Cell
@@ -79,7 +79,7 @@ later _ inside rest = rest
 
 rows_on : (m : Measure) (info : RenderInfo) (inside rest : Values) (n : ℕ)
     → n + (rows_by info (measured m inside) + (measured m rest).rows)
-    ≡ (n + rows_told info) + (measured m (later info inside rest)).rows
+    ≡ (n + rows_emitted info) + (measured m (later info inside rest)).rows
 rows_on m infos.TableGroup inside rest n = let e = rows_joined m inside rest in omega arith
 rows_on m infos.TableRow inside rest n = let e = rows_joined m inside rest in omega arith
 rows_on m _ inside rest n = on n 0 (measured m rest).rows
@@ -95,8 +95,8 @@ next_row i = omega arith
 cells_on : (m : Measure) (info : RenderInfo) (inside rest : Values) (n : ℕ)
     → counted n (cells_by info (measured m inside)
     ++ map (lowered (rows_by info (measured m inside))) (measured m rest).cells)
-    ≡ cells_told info (extent_by m info (measured m inside) (number inside)) (n + rows_told info)
-    ++ counted (n + rows_told info) (measured m (later info inside rest)).cells
+    ≡ cells_emitted info (extent_by m info (measured m inside) (number inside)) (n + rows_emitted info)
+    ++ counted (n + rows_emitted info) (measured m (later info inside rest)).cells
 cells_on m infos.TableGroup inside rest n =
     let whole = (measured m (joined inside rest)).cells in
     ap (counted n) (sym (cells_joined m inside rest)) ∙ ap (λ k. counted k whole) (none_on n)
@@ -127,17 +127,17 @@ skipped_fits infos.TableGroup n = omega arith
 skipped_fits infos.TableRow n = omega arith
 skipped_fits _ n = omega arith
 
-rows_few : (info : RenderInfo) → rows_told info ≤ 1
+rows_few : (info : RenderInfo) → rows_emitted info ≤ 1
 rows_few infos.TableRow = omega arith
 rows_few _ = omega arith
 
 later_values : (x : RenderNode) (xs : List RenderNode) → IsFlat (x ∷ xs)
     → values_of (drop (skipped x.head.info x.below) xs)
-    ≡ later x.head.info (first x.below (values_of xs)) (behind x.below (values_of xs))
+    ≡ later x.head.info (first x.below (values_of xs)) (trailing x.below (values_of xs))
 later_values x xs h = by x.head.info
   where
     by : (info : RenderInfo) → values_of (drop (skipped info x.below) xs)
-        ≡ later info (first x.below (values_of xs)) (behind x.below (values_of xs))
+        ≡ later info (first x.below (values_of xs)) (trailing x.below (values_of xs))
     by infos.TableGroup = sym (rest_values x xs h)
     by infos.TableRow = sym (rest_values x xs h)
     by _ = next_values x xs h
@@ -156,67 +156,67 @@ later_extents m x xs es h same = by x.head.info
 -- ---- the pass
 
 -- What was emitted of the nodes before, and what the rest still emits.
-pub record IsTold (m : Measure) (nodes rest : List RenderNode) (left : List Extent) (cells : List Cell) (rows : ℕ)
+pub record IsEmitted (m : Measure) (nodes rest : List RenderNode) (left : List Extent) (cells : List Cell) (rows : ℕ)
     : Type 0 where
   pub sized : left ≡ extents m (values_of rest)
-  pub told : cells ++ counted rows (measured m (values_of rest)).cells ≡ in_rows (measured m (values_of nodes))
+  pub emitted : cells ++ counted rows (measured m (values_of rest)).cells ≡ in_rows (measured m (values_of nodes))
   pub begun : rows + (measured m (values_of rest)).rows ≡ (measured m (values_of nodes)).rows
 
-pub told_first : (m : Measure) (nodes : List RenderNode) (es : List Extent) → es ≡ extents m (values_of nodes)
-    → IsTold m nodes nodes es [] 0
-told_first m nodes es same = record {
+pub emitted_first : (m : Measure) (nodes : List RenderNode) (es : List Extent) → es ≡ extents m (values_of nodes)
+    → IsEmitted m nodes nodes es [] 0
+emitted_first m nodes es same = record {
   sized = same;
-  told = ap (filter (λ (c : Cell). nat_lt 0 c.row)) (lowered_none (measured m (values_of nodes)).cells);
+  emitted = ap (filter (λ (c : Cell). nat_lt 0 c.row)) (lowered_none (measured m (values_of nodes)).cells);
   begun = from_first (measured m (values_of nodes)).rows;
 }
 
-pub told_on : (m : Measure) (nodes rest : List RenderNode) (x : RenderNode) (xs : List RenderNode)
+pub emitted_on : (m : Measure) (nodes rest : List RenderNode) (x : RenderNode) (xs : List RenderNode)
     (left : List Extent) (d : Extent) (cells more : List Cell) (rows new begun : ℕ) (later_nodes : List RenderNode)
-    (later_left : List Extent) → rest ≡ x ∷ xs → IsFlat rest → begun ≡ rows_told x.head.info → new ≡ rows + begun
-    → more ≡ cells ++ cells_told x.head.info (get_or left 0 d) new
+    (later_left : List Extent) → rest ≡ x ∷ xs → IsFlat rest → begun ≡ rows_emitted x.head.info → new ≡ rows + begun
+    → more ≡ cells ++ cells_emitted x.head.info (get_or left 0 d) new
     → later_nodes ≡ drop (skipped x.head.info x.below) xs
     → later_left ≡ drop (skipped x.head.info x.below) (drop 1 left)
-    → IsTold m nodes rest left cells rows → IsTold m nodes later_nodes later_left more new
-told_on m nodes rest x xs left d cells more rows new begun later_nodes later_left e h told_rows is pushed nodes_are
+    → IsEmitted m nodes rest left cells rows → IsEmitted m nodes later_nodes later_left more new
+emitted_on m nodes rest x xs left d cells more rows new begun later_nodes later_left e h emitted_rows is pushed nodes_are
     left_is_now was =
     let info = x.head.info in
     let inside = first x.below (values_of xs) in
-    let others = behind x.below (values_of xs) in
+    let others = trailing x.below (values_of xs) in
     let flat_here : IsFlat (x ∷ xs) = subst IsFlat e h in
-    let new_is : new ≡ rows + rows_told info = is ∙ ap (λ b. rows + b) told_rows in
+    let new_is : new ≡ rows + rows_emitted info = is ∙ ap (λ b. rows + b) emitted_rows in
     let here : get_or left 0 d ≡ extent_of m x.head inside =
     ap (λ l. get_or l 0 d) (left_is m rest x xs left e h was.sized) in
     let values_are : values_of later_nodes ≡ later info inside others =
     ap values_of nodes_are ∙ later_values x xs flat_here in
     record {
-      sized = left_is_now ∙ (later_extents m x xs (drop 1 left) flat_here (left_behind m rest x xs left e h was.sized)
+      sized = left_is_now ∙ (later_extents m x xs (drop 1 left) flat_here (left_after m rest x xs left e h was.sized)
           ∙ ap (λ l. extents m (values_of l)) (sym nodes_are));
-      told = ap (λ v. more ++ counted new (measured m v).cells) values_are
+      emitted = ap (λ v. more ++ counted new (measured m v).cells) values_are
           ∙ (ap (λ l. l ++ counted new (measured m (later info inside others)).cells)
-          (pushed ∙ ap (λ o. cells ++ cells_told info o new) here)
-          ∙ (ap (λ k. (cells ++ cells_told info (extent_of m x.head inside) k)
+          (pushed ∙ ap (λ o. cells ++ cells_emitted info o new) here)
+          ∙ (ap (λ k. (cells ++ cells_emitted info (extent_of m x.head inside) k)
           ++ counted k (measured m (later info inside others)).cells) new_is
-          ∙ (append_assoc cells (cells_told info (extent_of m x.head inside) (rows + rows_told info))
-          (counted (rows + rows_told info) (measured m (later info inside others)).cells)
+          ∙ (append_assoc cells (cells_emitted info (extent_of m x.head inside) (rows + rows_emitted info))
+          (counted (rows + rows_emitted info) (measured m (later info inside others)).cells)
           ∙ (ap (λ l. cells ++ l) (sym (cells_on m info inside others rows))
-          ∙ (ap (λ l. cells ++ counted rows (measured m (values_of l)).cells) (sym e) ∙ was.told)))));
+          ∙ (ap (λ l. cells ++ counted rows (measured m (values_of l)).cells) (sym e) ∙ was.emitted)))));
       begun = ap (λ v. new + (measured m v).rows) values_are
           ∙ (ap (λ k. k + (measured m (later info inside others)).rows) new_is
           ∙ (sym (rows_on m info inside others rows)
           ∙ (ap (λ l. rows + (measured m (values_of l)).rows) (sym e) ∙ was.begun)));
     }
 
-pub told_last : (m : Measure) (nodes rest : List RenderNode) (left : List Extent) (cells : List Cell) (rows : ℕ)
-    → length rest ≡ 0 → IsTold m nodes rest left cells rows
+pub emitted_last : (m : Measure) (nodes rest : List RenderNode) (left : List Extent) (cells : List Cell) (rows : ℕ)
+    → length rest ≡ 0 → IsEmitted m nodes rest left cells rows
     → (cells ≡ in_rows (measured m (values_of nodes))) × (rows ≡ (measured m (values_of nodes)).rows)
-told_last m nodes [] left cells rows alone was = (sym (append-nil cells) ∙ was.told, none_on rows ∙ was.begun)
-told_last m nodes (x ∷ xs) left cells rows alone was = absurd (omega arith)
+emitted_last m nodes [] left cells rows alone was = (sym (append-nil cells) ∙ was.emitted, none_on rows ∙ was.begun)
+emitted_last m nodes (x ∷ xs) left cells rows alone was = absurd (omega arith)
 
 -- there is room for what begins later
-pub room_behind : (rest : List RenderNode) (x : RenderNode) (xs : List RenderNode) (rows new begun most n : ℕ)
-    (later_nodes : List RenderNode) → rest ≡ x ∷ xs → begun ≡ rows_told x.head.info → new ≡ rows + begun
+pub room_after : (rest : List RenderNode) (x : RenderNode) (xs : List RenderNode) (rows new begun most n : ℕ)
+    (later_nodes : List RenderNode) → rest ≡ x ∷ xs → begun ≡ rows_emitted x.head.info → new ≡ rows + begun
     → later_nodes ≡ drop n xs → rows + length rest ≤ most → new + length later_nodes ≤ most
-room_behind rest x xs rows new begun most n later_nodes e told is nodes_are room =
+room_after rest x xs rows new begun most n later_nodes e emitted is nodes_are room =
     let a = ap length e in
     let b = rows_few x.head.info in
     let c = ap length nodes_are ∙ length-drop n xs in
@@ -238,23 +238,23 @@ left_fits rest x xs left next n e h is size next_is =
     let c = ap length e in
     omega arith
 
-pub sizes_behind : (rest : List RenderNode) (x : RenderNode) (xs : List RenderNode) (left next later_left : List Extent)
+pub sizes_after : (rest : List RenderNode) (x : RenderNode) (xs : List RenderNode) (left next later_left : List Extent)
     (n : ℕ) (later_nodes : List RenderNode) → rest ≡ x ∷ xs → length left ≡ length rest → next ≡ drop 1 left
     → later_left ≡ drop n next → later_nodes ≡ drop n xs → length later_left ≡ length later_nodes
-sizes_behind rest x xs left next later_left n later_nodes e size next_is left_is_now nodes_are =
+sizes_after rest x xs left next later_left n later_nodes e size next_is left_is_now nodes_are =
     let a = ap length next_is ∙ length-drop 1 left in
     let b = ap length left_is_now ∙ length-drop n next in
     let c = ap length nodes_are ∙ length-drop n xs in
     let d = ap length e in
     omega arith
 
-pub flat_behind : (rest : List RenderNode) (x : RenderNode) (xs : List RenderNode) (n : ℕ)
+pub flat_after : (rest : List RenderNode) (x : RenderNode) (xs : List RenderNode) (n : ℕ)
     (later_nodes : List RenderNode) → rest ≡ x ∷ xs → IsFlat rest → later_nodes ≡ drop n xs → IsFlat later_nodes
-flat_behind rest x xs n later_nodes e h nodes_are =
+flat_after rest x xs n later_nodes e h nodes_are =
     subst IsFlat (sym nodes_are) (flat_drop n xs (flat_rest x xs (subst IsFlat e h)))
 
 -- the cells that were emitted are what a grid asks for
-pub told_cells : (m : Measure) (vs : Values) (cells shown : List Cell) → shown ≡ cells → cells ≡ in_rows (measured m vs)
+pub emitted_cells : (m : Measure) (vs : Values) (cells shown : List Cell) → shown ≡ cells → cells ≡ in_rows (measured m vs)
     → AreTableCells (in_rows (measured m vs)) (measured m vs).rows → AreTableCells shown (measured m vs).rows
-told_cells m vs cells shown is told h =
-    subst (λ l. AreTableCells l (measured m vs).rows) (sym (is ∙ told)) h
+emitted_cells m vs cells shown is emitted h =
+    subst (λ l. AreTableCells l (measured m vs).rows) (sym (is ∙ emitted)) h

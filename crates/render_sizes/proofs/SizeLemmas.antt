@@ -1,14 +1,14 @@
 -- Columns of a text, read character by character.
-use Rattle.std.proofs.Common.{◌≡◌, ℕ, zero, suc, ◌+◌, ◌-◌, ◌^◌, ◌<◌, ◌≤◌, ◌==◌, Bool, true, false, if◌then◌else◌}
-use Rattle.std.proofs.Common.{List, []}
-use Rattle.std.proofs.Common.{◌∷◌, ◌++◌, length, drop, get_or, chars, IsUtf8, refl, sym, ap, ◌∙◌, length-append, arith}
+use Rattle.std.proofs.Common.{◌≡◌, ◌+◌, ◌-◌, ◌^◌, ◌<◌, ◌≤◌, ◌==◌, if◌then◌else◌, [], ◌∷◌, ◌++◌, ◌∙◌, Bool, IsUtf8, List}
+use Rattle.std.proofs.Common.{ap, arith, chars, drop, false, get_or, length, length-append, refl, suc, sym, true, zero}
+use Rattle.std.proofs.Common.{ℕ}
 use Rattle.std.specs.Char.{is_whitespace}
 use Rattle.std.specs.List.{list_all}
 use Rattle.std.proofs.lemmas.Bool.Decides.{nat_tests}
 use Rattle.std.proofs.lemmas.Str.{chars-nil}
-use Rattle.tagged_lines.proofs.Emptiness.{chars_nil}
+use Rattle.text_lines.proofs.Emptiness.{chars_nil}
 use Rattle.render_sizes.specs.Extents.{capped}
-use Rattle.render_sizes.specs.TextSizes.{added, size_behind, text_size}
+use Rattle.render_sizes.specs.TextSizes.{added, size_after, text_size}
 
 added_capped : (a b c : ℕ) → capped (capped (a + capped b) + c) ≡ capped (a + (b + c))
 added_capped a b c = omega arith
@@ -25,15 +25,15 @@ pushed ys y = let a = length-append ys (y ∷ []) in omega arith
 pub next_size : {Y : Type 0} (cs : List ℕ) (ys : List Y) (y : Y) (c more columns new whole : ℕ)
     (gap is_space : Bool) → (length ys < length cs) × (c ≡ get_or cs (length ys) c) → is_space ≡ is_whitespace c
     → more ≡ capped (added gap is_space c) → new ≡ capped (columns + more)
-    → capped (columns + size_behind gap (drop (length ys) cs)) ≡ whole
-    → capped (new + size_behind is_space (drop (length (ys ++ y ∷ [])) cs)) ≡ whole
+    → capped (columns + size_after gap (drop (length ys) cs)) ≡ whole
+    → capped (new + size_after is_space (drop (length (ys ++ y ∷ [])) cs)) ≡ whole
 next_size cs ys y c more columns new whole gap is_space turn space gives sum so_far =
     let i = length ys in
-    let later = size_behind is_space (drop (suc i) cs) in
-    let here : size_behind gap (drop i cs) ≡ added gap is_space c + later =
-    ap (size_behind gap) (drop_on i cs c turn.0 turn.1)
-    ∙ ap (λ b. added gap b c + size_behind b (drop (suc i) cs)) (sym space) in
-    ap (λ n. capped (new + size_behind is_space (drop n cs))) (pushed ys y)
+    let later = size_after is_space (drop (suc i) cs) in
+    let here : size_after gap (drop i cs) ≡ added gap is_space c + later =
+    ap (size_after gap) (drop_on i cs c turn.0 turn.1)
+    ∙ ap (λ b. added gap b c + size_after b (drop (suc i) cs)) (sym space) in
+    ap (λ n. capped (new + size_after is_space (drop n cs))) (pushed ys y)
     ∙ (ap (λ n. capped (n + later)) (sum ∙ ap (λ k. capped (columns + k)) gives)
     ∙ (added_capped columns (added gap is_space c) later
     ∙ (ap (λ k. capped (columns + k)) (sym here) ∙ so_far)))
@@ -45,10 +45,10 @@ drop_whole (suc i) [] e = refl
 drop_whole (suc i) (c ∷ cs) e = drop_whole i cs (omega arith)
 
 pub whole_size : {Y : Type 0} (cs : List ℕ) (ys : List Y) (columns whole : ℕ) (gap : Bool) → length ys ≡ length cs
-    → columns ≤ 2 ^ 64 - 1 → capped (columns + size_behind gap (drop (length ys) cs)) ≡ whole → columns ≡ whole
+    → columns ≤ 2 ^ 64 - 1 → capped (columns + size_after gap (drop (length ys) cs)) ≡ whole → columns ≡ whole
 whole_size cs ys columns whole gap all fits h =
     alone columns fits
-    ∙ (sym (ap (λ l. capped (columns + size_behind gap l)) (drop_whole (length ys) cs all)) ∙ h) where
+    ∙ (sym (ap (λ l. capped (columns + size_after gap l)) (drop_whole (length ys) cs all)) ∙ h) where
       alone : (n : ℕ) → n ≤ 2 ^ 64 - 1 → n ≡ capped (n + 0)
       alone n h = omega arith
 
@@ -70,13 +70,13 @@ some_text (b ∷ bs) utf8 h none = let k = chars_nil (b ∷ bs) utf8 none in cc
 
 of_spaces : (cs : List ℕ) → (cs ≡ [] → ⊥) → list_all is_whitespace cs ≡ true → 1 ≡ capped (text_size cs)
 of_spaces [] some h = absurd (some refl)
-of_spaces (c ∷ cs) some h = ap (λ b. capped (if b then 1 else size_behind false (c ∷ cs))) (sym h)
+of_spaces (c ∷ cs) some h = ap (λ b. capped (if b then 1 else size_after false (c ∷ cs))) (sym h)
 
 pub white_size : (bs : List ℕ) → IsUtf8 bs → (length bs == 0) ≡ false → list_all is_whitespace (chars bs) ≡ true
     → 1 ≡ capped (text_size (chars bs))
 white_size bs utf8 h white = of_spaces (chars bs) (some_text bs utf8 h) white
 
 pub words_size : (cs : List ℕ) → list_all is_whitespace cs ≡ false
-    → capped (size_behind false cs) ≡ capped (text_size cs)
+    → capped (size_after false cs) ≡ capped (text_size cs)
 words_size [] h = refl
-words_size (c ∷ cs) h = ap (λ b. capped (if b then 1 else size_behind false (c ∷ cs))) (sym h)
+words_size (c ∷ cs) h = ap (λ b. capped (if b then 1 else size_after false (c ∷ cs))) (sym h)

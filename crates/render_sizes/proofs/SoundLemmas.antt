@@ -1,12 +1,11 @@
 -- What is measured is sound.
-use Rattle.std.proofs.Common.{◌≡◌, ℕ, zero, suc, ◌+◌, ◌-◌, ◌^◌, ◌<◌, ◌≤◌, true, nat_lt}
-use Rattle.std.proofs.Common.{List, [], ◌∷◌, ◌++◌, length, get_or, map, filter, All}
-use Rattle.std.proofs.Common.{arith}
+use Rattle.std.proofs.Common.{◌≡◌, ◌+◌, ◌-◌, ◌^◌, ◌<◌, ◌≤◌, [], ◌∷◌, ◌++◌, All, List, arith, filter, get_or, length}
+use Rattle.std.proofs.Common.{map, nat_lt, suc, true, zero, ℕ}
 use Rattle.std.specs.List.Sorted.{IsNonDecreasingBy}
 use Rattle.std.proofs.lemmas.Bool.Decides.{nat_tests}
 use Rattle.std.proofs.lemmas.List.Elements.{All-cons, All-filter, All-nil, All-weaker, filter_passes}
 use Rattle.std.proofs.lemmas.List.Kept.{IsNonDecreasingBy-filter}
-use Rattle.column_shares.specs.Shares.{AreSized, table_asks, total_of}
+use Rattle.table_widths.specs.Shares.{AreSized, table_asks, total_of}
 use Rattle.render_values.specs.Values.{Values, none, value}
 use Rattle.render_values.specs.declared.info.RenderInfo.{RenderInfo}
 use Rattle.render_values.specs.declared.info.RenderInfo.TheVariants as infos
@@ -17,14 +16,14 @@ use Rattle.render_sizes.specs.TextSizes.{text_size}
 use Rattle.render_sizes.specs.declared.extent.Extent.{Extent}
 use Rattle.table_grid.specs.TheGrid.{grid}
 use Rattle.table_grid.specs.declared.columns.Column.{Column}
-use Rattle.table_places.specs.declared.cell.Cell.{Cell}
+use Rattle.table_grid.specs.declared.cell.Cell.{Cell}
 
 abbrev row_of : Cell → ℕ
 row_of c = c.row
 
 cell_kept : (from to low high : ℕ) (c : Cell) → low ≤ from → to ≤ high → IsCell from to c → IsCell low high c
 cell_kept from to low high c le more h = record {
-  behind = let a = h.behind in omega arith;
+  trailing = let a = h.trailing in omega arith;
   within = let a = h.within in omega arith;
   some = h.some;
   tall = h.tall;
@@ -52,7 +51,7 @@ cells_lowered : (n from to low high : ℕ) (cells : List Cell) → low ≤ n + f
 cells_lowered n from to low high [] le more h = tt
 cells_lowered n from to low high (c ∷ cells) le more h = (
   record {
-    behind = let a = h.0.behind in omega arith;
+    trailing = let a = h.0.trailing in omega arith;
     within = let a = h.0.within in omega arith;
     some = h.0.some;
     tall = h.0.tall;
@@ -84,9 +83,9 @@ rows_rise from to (c ∷ cells) h zero (suc j) d le lt = above c.row cells h.1 j
   where
     above : (low : ℕ) (xs : List Cell) → AreCells low to xs → (k : ℕ) → k < length xs → low ≤ (get_or xs k d).row
     above low [] g k lt = absurd (omega arith)
-    above low (x ∷ xs) g zero lt = g.0.behind
+    above low (x ∷ xs) g zero lt = g.0.trailing
     above low (x ∷ xs) g (suc k) lt =
-        let a = g.0.behind in let b = above x.row xs g.1 k (omega arith) in omega arith
+        let a = g.0.trailing in let b = above x.row xs g.1 k (omega arith) in omega arith
 rows_rise from to (c ∷ cells) h (suc i) zero d le lt = absurd (omega arith)
 rows_rise from to (c ∷ cells) h (suc i) (suc j) d le lt =
     rows_rise c.row to cells h.1 i j d (omega arith) (omega arith)
@@ -134,7 +133,7 @@ cells_sound infos.TableGroup x h = h.cells
 cells_sound infos.TableRow x h = cells_lowered 1 0 x.rows 0 (suc x.rows) x.cells (omega arith) (omega arith) h.cells
 cells_sound (infos.TableCell columns taken) x h = (
   record {
-    behind = omega arith;
+    trailing = omega arith;
     within = omega arith;
     some = omega arith;
     tall = omega arith;

@@ -1,10 +1,10 @@
 -- How many columns values take: on one line, and at least.
 use Rattle.std.specs.Prelude.{ℕ, suc, ◌+◌, ◌-◌, ◌^◌, List, [], ◌∷◌, ◌++◌, filter, map, max, min, nat_lt, ℤ}
-use Rattle.column_shares.specs.Shares.{table_asks}
+use Rattle.table_widths.specs.Shares.{table_asks}
 use Rattle.table_grid.specs.TheGrid.{grid}
 use Rattle.table_grid.specs.declared.columns.Column.{Column}
-use Rattle.table_places.specs.declared.cell.Cell.{Cell}
-use Rattle.table_rows.specs.Slots.{Table, table}
+use Rattle.table_grid.specs.declared.cell.Cell.{Cell}
+use Rattle.table_widths.specs.Slots.{Table, table}
 use Rattle.render_values.specs.Values.{Values, none, value}
 use Rattle.render_values.specs.declared.info.Head.{Head}
 use Rattle.render_values.specs.declared.info.RenderInfo.{RenderInfo}

@@ -3,12 +3,12 @@ use Rattle.std.specs.Prelude.{ℕ, List, [], ◌∷◌, max, nat_lt, if◌then�
 use Rattle.render_values.specs.declared.info.RenderInfo.{RenderInfo}
 use Rattle.render_values.specs.declared.info.RenderInfo.TheVariants as infos
 use Rattle.render_sizes.specs.declared.extent.Extent.{Extent}
-use Rattle.table_places.specs.declared.cell.Cell.{Cell}
+use Rattle.table_grid.specs.declared.cell.Cell.{Cell}
 
 -- the rows that begin with a value
-abbrev pub rows_told : RenderInfo → ℕ
-rows_told infos.TableRow = 1
-rows_told _ = 0
+abbrev pub rows_emitted : RenderInfo → ℕ
+rows_emitted infos.TableRow = 1
+rows_emitted _ = 0
 
 -- groups and rows are entered, and what stands in anything else is skipped
 abbrev pub skipped : RenderInfo → (below : ℕ) → ℕ
@@ -17,12 +17,12 @@ skipped infos.TableRow below = 0
 skipped _ below = below
 
 -- a cell stands in the row that began last
-abbrev pub cells_told : RenderInfo → Extent → (rows : ℕ) → List Cell
-cells_told (infos.TableCell columns taken) extent rows = if nat_lt 0 rows then record {
+abbrev pub cells_emitted : RenderInfo → Extent → (rows : ℕ) → List Cell
+cells_emitted (infos.TableCell columns taken) extent rows = if nat_lt 0 rows then record {
   row = rows;
   colspan = max columns 1;
   rowspan = max taken 1;
   size = extent.size;
   least = extent.least;
 } ∷ [] else []
-cells_told _ extent rows = []
+cells_emitted _ extent rows = []

@@ -2,11 +2,11 @@
 use Rattle.std.specs.Prelude.{ℕ, ◌-◌, ◌^◌, ◌<◌, ◌≤◌, All, List, [], ◌∷◌}
 use Rattle.std.specs.List.Sorted.{IsNonDecreasingBy}
 use Rattle.render_sizes.specs.Extents.{Measured}
-use Rattle.table_places.specs.declared.cell.Cell.{Cell}
+use Rattle.table_grid.specs.declared.cell.Cell.{Cell}
 
 -- a cell in a row from a first to a last, that spans something, and asks for no more at least than in all
 pub record IsCell (from to : ℕ) (c : Cell) : Type 0 where
-  pub behind : from ≤ c.row
+  pub trailing : from ≤ c.row
   pub within : c.row ≤ to
   pub some : 0 < c.colspan
   pub tall : 0 < c.rowspan

@@ -6,7 +6,7 @@ ghost use Rattle.render_sizes.specs.Extents.{extents, measure_of};
 
 use crate::extent::{Extent, nothing_wide};
 use crate::prefixes::Prefixes;
-use crate::sizes::{all_extents, first_nodes, nodes_behind, one_more};
+use crate::sizes::{all_extents, first_nodes, nodes_after, one_more};
 use render_values::{RenderInfo, RenderNode, RenderTree};
 use std::alloc::{AllocError, Global};
 
@@ -79,12 +79,12 @@ fn push_asked<'n, P: Prefixes>(
             all.push(nothing_wide())?;
             let inside = first_nodes(others, first.below);
             push_extents(all, alloc, prefixes, min_wrap, inside)?;
-            Ok(nodes_behind(others, first.below))
+            Ok(nodes_after(others, first.below))
         }
         Asked::Itself => {
             let value = first_nodes(nodes, one_more(first.below, nodes.len()));
             push_extents(all, alloc, prefixes, min_wrap, value)?;
-            Ok(nodes_behind(others, first.below))
+            Ok(nodes_after(others, first.below))
         }
     }
 }

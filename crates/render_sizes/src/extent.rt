@@ -1,7 +1,7 @@
 //! How many columns a value takes.
 ghost use Rattle.std.specs.Prelude.{◌≡◌, IfOk, max, min};
-ghost use Rattle.render_sizes.specs.Extents.{beside, extent, extent_by, extents, measure_of, measured};
-ghost use Rattle.render_sizes.specs.Extents.{nothing_wide, number, of_columns, prefixed};
+ghost use Rattle.render_sizes.specs.Extents.{beside, extent, extent_by, extents, measure_of, measured, nothing_wide};
+ghost use Rattle.render_sizes.specs.Extents.{number, of_columns, prefixed};
 ghost use Rattle.render_values.specs.Arena.{IsFlat, values_of};
 
 use crate::prefixes::Prefixes;

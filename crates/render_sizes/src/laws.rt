@@ -1,14 +1,13 @@
 //! Laws of what values ask for: each is the contract of a function that does nothing.
 ghost use Rattle.std.specs.Prelude.{◌≤◌};
-ghost use Rattle.column_shares.specs.Shares.{AreSized};
+ghost use Rattle.table_widths.specs.Shares.{AreSized};
 ghost use Rattle.render_sizes.specs.Extents.{Measure, extent, in_rows, measured, table_in};
 ghost use Rattle.render_sizes.specs.Sound.{AreTableCells, IsSound};
 ghost use Rattle.render_values.specs.Values.{Values};
-ghost use Rattle.table_rows.specs.RowLaws.{AreWholeRows};
+ghost use Rattle.table_widths.specs.RowLaws.{AreWholeRows};
 
-use column_shares::tables_ask_for_their_least;
 use table_grid::columns_of_a_grid_are_sized;
-use table_rows::rows_across_are_whole;
+use table_widths::{rows_across_are_whole, tables_ask_for_their_least};
 
 // What is measured is sound, and the cells of rows are what the grid of a table asks for.
 pub(crate) fn measured_is_sound()

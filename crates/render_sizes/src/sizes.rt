@@ -9,7 +9,7 @@ use render_values::{RenderNode, RenderTree};
 use std::alloc::{AllocError, Global};
 
 /// The nodes after so many.
-pub(crate) fn nodes_behind(nodes: &[RenderNode], count: usize) -> &[RenderNode]
+pub(crate) fn nodes_after(nodes: &[RenderNode], count: usize) -> &[RenderNode]
     requires { count ≤ length nodes.now }
     ensures { result.now ≡ drop count nodes.now }
 {
@@ -32,7 +32,7 @@ fn first_extents(extents: &[Extent], count: usize) -> &[Extent]
 }
 
 /// The extents after so many.
-pub(crate) fn extents_behind(extents: &[Extent], count: usize) -> &[Extent]
+pub(crate) fn extents_after(extents: &[Extent], count: usize) -> &[Extent]
     requires { count ≤ length extents.now }
     ensures { result.now ≡ drop count extents.now }
 {
@@ -58,7 +58,7 @@ pub fn number(nodes: &[RenderNode]) -> usize
     let mut rest = nodes;
     'values: while let Some((first, others)) = rest.split_first() {
         count = one_more(count, most);
-        rest = nodes_behind(others, first.below);
+        rest = nodes_after(others, first.below);
     }
     count
 }
@@ -79,8 +79,8 @@ fn together<P: Prefixes>(
     let mut left = measured;
     'values: while let Some((first, others)) = rest.split_first() {
         sum = beside(sum, left[0]);
-        left = extents_behind(extents_behind(left, 1), first.below);
-        rest = nodes_behind(others, first.below);
+        left = extents_after(extents_after(left, 1), first.below);
+        rest = nodes_after(others, first.below);
     }
     sum
 }
@@ -131,8 +131,8 @@ pub(crate) fn all_extents<P: Prefixes>(
             alloc,
             prefixes,
             min_wrap,
-            nodes_behind(nodes, at),
-            extents_behind(all.as_slice(), at + 1),
+            nodes_after(nodes, at),
+            extents_after(all.as_slice(), at + 1),
         )?;
         all[at] = one;
     }

@@ -1,22 +1,20 @@
 //! Tables among the nodes of a render tree.
 ghost use Rattle.std.specs.Prelude.{◌≡◌, ◌+◌, ◌++◌, ◌≤◌, IfOk, OnOk, length};
-ghost use Rattle.column_shares.specs.Shares.{AreSized};
+ghost use Rattle.table_widths.specs.Shares.{AreSized};
 ghost use Rattle.render_sizes.specs.Extents.{Measure, extents, in_rows, measure_of, measured, table_extent, table_in};
-ghost use Rattle.render_sizes.specs.RowCells.{cells_told, rows_told, skipped};
+ghost use Rattle.render_sizes.specs.RowCells.{cells_emitted, rows_emitted, skipped};
 ghost use Rattle.render_values.specs.Arena.{IsFlat, values_of};
 ghost use Rattle.table_grid.specs.TheGrid.{grid};
-ghost use Rattle.table_rows.specs.Tables.{table_seen};
+ghost use Rattle.table_widths.specs.Tables.{table_seen};
 
 use crate::extent::Extent;
 use crate::laws::measured_is_sound;
 use crate::prefixes::Prefixes;
-use crate::sizes::{extents_behind, nodes_behind};
-use column_shares::asked_by_table;
+use crate::sizes::{extents_after, nodes_after};
 use render_values::{RenderInfo, RenderNode};
 use std::alloc::{AllocError, Global};
-use table_grid::grid_of;
-use table_places::Cell;
-use table_rows::{Table, table_of};
+use table_grid::{Cell, grid_of};
+use table_widths::{Table, asked_by_table, table_of};
 
 // The cells that stand in rows among nodes, each with the number of its row, from 1 on, and how many rows there are.
 #[derive(Drop)]
@@ -26,8 +24,8 @@ struct RowCells {
 }
 
 // the rows that begin with a value
-fn rows_told(info: &RenderInfo) -> usize
-    ensures { result ≡ rows_told info.now }
+fn rows_emitted(info: &RenderInfo) -> usize
+    ensures { result ≡ rows_emitted info.now }
 {
     match info {
         RenderInfo::TableRow => 1,
@@ -55,13 +53,13 @@ fn rows_on(rows: usize, begun: usize, most: usize) -> usize
 }
 
 // a cell stands in the row that began last
-fn push_told(
+fn push_emitted(
     cells: &mut Vec<Cell>,
     info: &RenderInfo,
     extent: Extent,
     rows: usize,
 ) -> Result<(), AllocError>
-    ensures { OnOk result (cells.new.items ≡ cells.old.items ++ cells_told info.now extent rows) }
+    ensures { OnOk result (cells.new.items ≡ cells.old.items ++ cells_emitted info.now extent rows) }
 {
     match info {
         RenderInfo::TableCell {
@@ -98,11 +96,11 @@ fn row_cells(alloc: Global, nodes: &[RenderNode], sizes: &[Extent]) -> Result<Ro
     let mut rest = nodes;
     let mut left = sizes;
     'nodes: while let Some((first, others)) = rest.split_first() {
-        rows = rows_on(rows, rows_told(&first.head.info), most);
-        push_told(&mut cells, &first.head.info, left[0], rows)?;
+        rows = rows_on(rows, rows_emitted(&first.head.info), most);
+        push_emitted(&mut cells, &first.head.info, left[0], rows)?;
         let count = skipped(&first.head.info, first.below);
-        left = extents_behind(extents_behind(left, 1), count);
-        rest = nodes_behind(others, count);
+        left = extents_after(extents_after(left, 1), count);
+        rest = nodes_after(others, count);
     }
     Ok(RowCells { cells, rows })
 }

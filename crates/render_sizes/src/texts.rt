@@ -1,12 +1,12 @@
 //! How many columns a text takes on one line.
 ghost use Rattle.std.specs.Prelude.{◌≡◌, IsTrue, chars, false};
 ghost use Rattle.std.specs.Char.{is_whitespace};
-ghost use Rattle.tagged_lines.specs.Columns.{width_of};
+ghost use Rattle.text_lines.specs.Columns.{width_of};
 ghost use Rattle.render_sizes.specs.Extents.{capped};
-ghost use Rattle.render_sizes.specs.TextSizes.{added, gap_columns, size_behind, text_size};
+ghost use Rattle.render_sizes.specs.TextSizes.{added, gap_columns, size_after, text_size};
 
 use render_values::is_white_space;
-use tagged_lines::{Columns, UnicodeColumns};
+use text_lines::{Columns, UnicodeColumns};
 
 fn width_of(c: char) -> usize
     ensures { result ≡ width_of c }
@@ -24,7 +24,7 @@ fn gap_columns(gap: bool) -> usize
 }
 
 fn size_of_words(text: &str) -> usize
-    ensures { result ≡ capped (size_behind false (chars text.now)) }
+    ensures { result ≡ capped (size_after false (chars text.now)) }
 {
     // The common case.
     if text.is_ascii() {
@@ -35,7 +35,7 @@ fn size_of_words(text: &str) -> usize
 
 // of characters that are a byte each
 fn size_of_bytes(bytes: &[u8]) -> usize
-    ensures { result ≡ capped (size_behind false bytes.now) }
+    ensures { result ≡ capped (size_after false bytes.now) }
 {
     let mut columns: usize = 0;
     let mut gap = false;
@@ -75,7 +75,7 @@ fn is_graphic(byte: u8) -> bool
 }
 
 fn size_of_characters(text: &str) -> usize
-    ensures { result ≡ capped (size_behind false (chars text.now)) }
+    ensures { result ≡ capped (size_after false (chars text.now)) }
 {
     let mut columns: usize = 0;
     let mut gap = false;

@@ -1,8 +1,8 @@
 -- Nodes in a row, and the values that they are.
-use Rattle.std.proofs.Common.{◌≡◌, ℕ, zero, suc, ◌≤◌, List, [], ◌∷◌, ◌++◌, length, drop, refl, sym, ap, subst}
-use Rattle.std.proofs.Common.{◌∙◌, append_assoc, length-append, arith}
+use Rattle.std.proofs.Common.{◌≡◌, ◌≤◌, [], ◌∷◌, ◌++◌, ◌∙◌, List, ap, append_assoc, arith, drop, length, length-append}
+use Rattle.std.proofs.Common.{refl, subst, suc, sym, zero, ℕ}
 use Rattle.std.proofs.Math.Seq.{drop-append_seam}
-use Rattle.render_values.specs.Arena.{IsFlat, behind, first, flat, values_of}
+use Rattle.render_values.specs.Arena.{IsFlat, trailing, first, flat, values_of}
 use Rattle.render_values.specs.Reading.{read_back}
 use Rattle.render_values.specs.Values.{Values, count, joined, none, value}
 use Rattle.render_values.specs.declared.node.RenderNode.{RenderNode}
@@ -43,7 +43,7 @@ below_is x xs h = ap below_of h where
   below_of (y ∷ ys) = y.below
 
 pub rest_is : (x : RenderNode) (xs : List RenderNode) → IsFlat (x ∷ xs)
-    → flat (first x.below (values_of xs)) ++ flat (behind x.below (values_of xs)) ≡ xs
+    → flat (first x.below (values_of xs)) ++ flat (trailing x.below (values_of xs)) ≡ xs
 rest_is x xs h = ap rest_of h where
   rest_of : List RenderNode → List RenderNode
   rest_of [] = []
@@ -52,7 +52,7 @@ rest_is x xs h = ap rest_of h where
 pub flat_rest : (x : RenderNode) (xs : List RenderNode) → IsFlat (x ∷ xs) → IsFlat xs
 flat_rest x xs h =
     let k = first x.below (values_of xs) in
-    let r = behind x.below (values_of xs) in
+    let r = trailing x.below (values_of xs) in
     flat_by xs (joined k r) (sym (rest_is x xs h) ∙ sym (flat_joined k r))
 
 pub flat_drop : (n : ℕ) (xs : List RenderNode) → IsFlat xs → IsFlat (drop n xs)
@@ -62,24 +62,24 @@ flat_drop (suc n) (x ∷ xs) h = flat_drop n xs (flat_rest x xs h)
 
 -- what follows a node
 pub next_is : (x : RenderNode) (xs : List RenderNode) → IsFlat (x ∷ xs)
-    → drop x.below xs ≡ flat (behind x.below (values_of xs))
+    → drop x.below xs ≡ flat (trailing x.below (values_of xs))
 next_is x xs h =
     let k = first x.below (values_of xs) in
-    let r = behind x.below (values_of xs) in
+    let r = trailing x.below (values_of xs) in
     ap (λ n. drop n xs) (sym (below_is x xs h) ∙ sym (length_flat k) {- -})
     ∙ (ap (drop (length (flat k))) (sym (rest_is x xs h)) ∙ drop-append_seam (flat k) (flat r))
 
 pub next_flat : (x : RenderNode) (xs : List RenderNode) → IsFlat (x ∷ xs) → IsFlat (drop x.below xs)
-next_flat x xs h = flat_by (drop x.below xs) (behind x.below (values_of xs)) (next_is x xs h)
+next_flat x xs h = flat_by (drop x.below xs) (trailing x.below (values_of xs)) (next_is x xs h)
 
 pub next_values : (x : RenderNode) (xs : List RenderNode) → IsFlat (x ∷ xs)
-    → values_of (drop x.below xs) ≡ behind x.below (values_of xs)
-next_values x xs h = ap values_of (next_is x xs h) ∙ read_back (behind x.below (values_of xs))
+    → values_of (drop x.below xs) ≡ trailing x.below (values_of xs)
+next_values x xs h = ap values_of (next_is x xs h) ∙ read_back (trailing x.below (values_of xs))
 
 pub below_fits : (x : RenderNode) (xs : List RenderNode) → IsFlat (x ∷ xs) → x.below ≤ length xs
 below_fits x xs h =
     let k = first x.below (values_of xs) in
-    let r = behind x.below (values_of xs) in
+    let r = trailing x.below (values_of xs) in
     let a = below_is x xs h in
     let b = ap length (rest_is x xs h) in
     let c = length-append (flat k) (flat r) in

@@ -1,6 +1,6 @@
 -- Values that end.
-use Rattle.std.proofs.Common.{◌≡◌, ℕ, zero, suc, ◌+◌, ◌<◌, List, [], ◌∷◌, ◌++◌, length, take, drop, get_or, refl, sym}
-use Rattle.std.proofs.Common.{ap, ◌∙◌, append-nil, arith, Bool}
+use Rattle.std.proofs.Common.{◌≡◌, ◌+◌, ◌<◌, [], ◌∷◌, ◌++◌, ◌∙◌, Bool, List, ap, append-nil, arith, drop, get_or}
+use Rattle.std.proofs.Common.{length, refl, suc, sym, take, zero, ℕ}
 use Rattle.std.proofs.Math.ListN.{set}
 use Rattle.render_values.specs.Arena.{IsFlat, flat, values_of}
 use Rattle.render_values.specs.Closing.{closed_at, ended_first, ending_first, fragment_alone, held, holding}

@@ -2,7 +2,7 @@
 use Rattle.std.proofs.Common.{◌≡◌, ◌&&◌, true, List, ◌∷◌, drop, refl, sym, ap, subst, ◌∙◌, arith}
 use Rattle.std.specs.Bool.{nat_eq}
 use Rattle.std.proofs.lemmas.Bool.Decides.{nat_tests}
-use Rattle.render_values.specs.Arena.{IsFlat, behind, first, values_of}
+use Rattle.render_values.specs.Arena.{IsFlat, trailing, first, values_of}
 use Rattle.render_values.specs.Emptiness.{all_empty, holds_none, is_empty_value}
 use Rattle.render_values.specs.Values.{Values, count, none, value}
 use Rattle.render_values.specs.declared.node.RenderNode.{RenderNode}
@@ -22,7 +22,7 @@ pub empty_on : (x : RenderNode) (xs : List RenderNode) → IsFlat (x ∷ xs)
     → all_empty (values_of (x ∷ xs))
     ≡ is_empty_value x.head (nat_eq x.below 0) && all_empty (values_of (drop x.below xs))
 empty_on x xs h =
-    ap (λ b. is_empty_value x.head b && all_empty (behind x.below (values_of xs))) (none_below x xs h)
+    ap (λ b. is_empty_value x.head b && all_empty (trailing x.below (values_of xs))) (none_below x xs h)
     ∙ ap (λ vs. is_empty_value x.head (nat_eq x.below 0) && all_empty vs) (sym (next_values x xs h))
 
 pub empty_next : (rest : List RenderNode) (x : RenderNode) (xs : List RenderNode) → rest ≡ x ∷ xs → IsFlat rest

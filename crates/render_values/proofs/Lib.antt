@@ -1,5 +1,5 @@
-pub mod CellLemmas
 pub mod ArenaLemmas
-pub mod EmptinessLemmas
+pub mod CellLemmas
 pub mod ClosingLemmas
+pub mod EmptinessLemmas
 pub mod RaisingLemmas

@@ -1,19 +1,19 @@
 -- Raised digits.
-use Rattle.std.proofs.Common.{◌≡◌, ℕ, zero, suc, ◌+◌, ◌<◌, Bool, List, [], ◌∷◌, ◌++◌, length, take, drop, get_or}
-use Rattle.std.proofs.Common.{map, refl, sym, ap, ◌∙◌, arith}
+use Rattle.std.proofs.Common.{◌≡◌, ◌+◌, ◌<◌, [], ◌∷◌, ◌++◌, ◌∙◌, Bool, List, ap, arith, drop, get_or, length, map, refl}
+use Rattle.std.proofs.Common.{suc, sym, take, zero, ℕ}
 use Rattle.std.proofs.Math.ListN.{set}
 use Rattle.std.proofs.lemmas.List.{length_push, take_more, take_all}
 use Rattle.std.specs.Prelude.{Result, OnOk, Ok, Err}
-use Rattle.render_values.specs.Closing.{closed_at, ended_first, ending_first, raised_node, raised_nodes}
-use Rattle.render_values.specs.Closing.{raised_second, with_raised}
+use Rattle.render_values.specs.Closing.{closed_at, ended_first, ending_first, raised_node, raised_nodes, raised_second}
+use Rattle.render_values.specs.Closing.{with_raised}
 use Rattle.render_values.specs.declared.closing.Outcome.TheVariants.{Raised}
 use Rattle.render_values.specs.declared.raising.Raised.{Raised as RaisedPart}
 use Rattle.render_values.specs.declared.closing.Condition.{Condition}
 use Rattle.render_values.specs.declared.node.RenderNode.{RenderNode}
 
-map_behind : (f : ℕ → ℕ) (xs : List ℕ) (x : ℕ) → map f (xs ++ x ∷ []) ≡ map f xs ++ f x ∷ []
-map_behind f [] x = refl
-map_behind f (y ∷ xs) x = ap (λ l. f y ∷ l) (map_behind f xs x)
+map_after : (f : ℕ → ℕ) (xs : List ℕ) (x : ℕ) → map f (xs ++ x ∷ []) ≡ map f xs ++ f x ∷ []
+map_after f [] x = refl
+map_after f (y ∷ xs) x = ap (λ l. f y ∷ l) (map_after f xs x)
 
 next_taken : {Y : Type 0} (all : List ℕ) (ys : List Y) (y : Y) (x : ℕ)
     → (length ys < length all) × (x ≡ get_or all (length ys) x)
@@ -27,7 +27,7 @@ pub next_raised : {Y : Type 0} (f : ℕ → ℕ) (cs : List ℕ) (ys : List Y) (
     → d ≡ f c → new ≡ mid ++ d ∷ [] → new ≡ map f (take (length (ys ++ y ∷ [])) cs)
 next_raised f cs ys y c d mid new turn so_far is one =
     one ∙ ap (λ e. mid ++ e ∷ []) is ∙ ap (λ front. front ++ f c ∷ []) so_far
-    ∙ sym (ap (map f) (next_taken cs ys y c turn) ∙ map_behind f (take (length ys) cs) c)
+    ∙ sym (ap (map f) (next_taken cs ys y c turn) ∙ map_after f (take (length ys) cs) c)
 
 pub all_raised : {Y : Type 0} (f : ℕ → ℕ) (cs : List ℕ) (ys : List Y) (new : List ℕ) → length ys ≡ length cs
     → new ≡ map f (take (length ys) cs) → new ≡ map f cs
@@ -46,9 +46,9 @@ next_place at = omega arith
 pub raised_by : (at : ℕ) (items seen rest cut : List RenderNode) (y z : RenderNode) (r : RaisedPart)
     → seen ≡ items → rest ≡ drop at seen → r ≡ raised_second rest → cut ≡ take (at + 1) items
     → at < length items → y ≡ get_or cut at y → z ≡ raised_node r y → set cut at z ≡ with_raised at items
-raised_by at items seen rest cut y z r same behind raised e h is made =
+raised_by at items seen rest cut y z r same trailing raised e h is made =
     let of_items : r ≡ raised_second (drop at items) =
-    raised ∙ ap raised_second (behind ∙ ap (drop at) same) in
+    raised ∙ ap raised_second (trailing ∙ ap (drop at) same) in
     let short : cut ≡ take (suc at) items = e ∙ ap (λ n. take n items) (next_place at) in
     ap (λ l. set l at z) short
     ∙ (ap (set (take (suc at) items) at) (made ∙ ap (λ i. raised_node i y) of_items)

@@ -3,7 +3,7 @@ use Rattle.std.specs.Prelude.{◌≡◌, ℕ, ◌+◌, ◌-◌, List, [], ◌++�
 use Rattle.std.proofs.Common.{refl, sym, ap, ◌∙◌, append_assoc, append-nil}
 use Rattle.std.proofs.Math.Nat.{add-sub_cancel_left}
 use Rattle.std.specs.Coded.{Coded, code_by, coded_list}
-use Rattle.render_values.specs.Arena.{behind, first, flat, values_of}
+use Rattle.render_values.specs.Arena.{trailing, first, flat, values_of}
 use Rattle.render_values.specs.Values.{Values, count, joined, none, value}
 use Rattle.render_values.specs.declared.node.RenderNode.{RenderNode}
 
@@ -18,9 +18,9 @@ first_none : (ws : Values) → first 0 ws ≡ none
 first_none none = refl
 first_none (value head inside rest) = refl
 
-behind_none : (ws : Values) → behind 0 ws ≡ ws
-behind_none none = refl
-behind_none (value head inside rest) = refl
+after_none : (ws : Values) → trailing 0 ws ≡ ws
+after_none none = refl
+after_none (value head inside rest) = refl
 
 pub first_joined : (vs ws : Values) → first (count vs) (joined vs ws) ≡ vs
 first_joined none ws = first_none ws
@@ -28,10 +28,10 @@ first_joined (value head inside rest) ws =
     ap (λ n. value head inside (first n (joined rest ws))) (less (count inside) (count rest))
     ∙ ap (value head inside) (first_joined rest ws)
 
-pub behind_joined : (vs ws : Values) → behind (count vs) (joined vs ws) ≡ ws
-behind_joined none ws = behind_none ws
-behind_joined (value head inside rest) ws =
-    ap (λ n. behind n (joined rest ws)) (less (count inside) (count rest)) ∙ behind_joined rest ws
+pub after_joined : (vs ws : Values) → trailing (count vs) (joined vs ws) ≡ ws
+after_joined none ws = after_none ws
+after_joined (value head inside rest) ws =
+    ap (λ n. trailing n (joined rest ws)) (less (count inside) (count rest)) ∙ after_joined rest ws
 
 -- nodes of values, and others after them
 pub read_flat : (vs : Values) (xs : List RenderNode) → values_of (flat vs ++ xs) ≡ joined vs (values_of xs)
@@ -41,9 +41,9 @@ read_flat (value head inside rest) xs =
     let later : values_of ((flat inside ++ flat rest) ++ xs) ≡ joined inside others =
     ap values_of (append_assoc (flat inside) (flat rest) xs)
     ∙ (read_flat inside (flat rest ++ xs) ∙ ap (joined inside) (read_flat rest xs)) in
-    ap (λ w. value head (first (count inside) w) (behind (count inside) w)) later
-    ∙ (ap (λ w. value head w (behind (count inside) (joined inside others))) (first_joined inside others)
-    ∙ ap (value head inside) (behind_joined inside others))
+    ap (λ w. value head (first (count inside) w) (trailing (count inside) w)) later
+    ∙ (ap (λ w. value head w (trailing (count inside) (joined inside others))) (first_joined inside others)
+    ∙ ap (value head inside) (after_joined inside others))
 
 pub read_back : (vs : Values) → values_of (flat vs) ≡ vs
 read_back vs = ap values_of (sym (append-nil (flat vs))) ∙ (read_flat vs [] ∙ joined_none vs)

@@ -7,7 +7,7 @@ ghost use Rattle.render_values.specs.Closing.{closed, ending_first, fragment_alo
 ghost use Rattle.render_values.specs.Closing.{with_raised};
 ghost use Rattle.render_values.specs.Endings.{ending, is_raised, shows};
 
-use crate::emptiness::{all_shallow_empty, is_shallow_empty, nodes_behind};
+use crate::emptiness::{all_shallow_empty, is_shallow_empty, nodes_after};
 use crate::info::{Head, RenderInfo};
 use crate::node::RenderNode;
 use crate::raising::{Raised, is_number, raised_second};
@@ -128,7 +128,7 @@ fn ending_at(nodes: &[RenderNode], opened: Opened) -> Outcome
     requires there { opened.at < length nodes.now }
     ensures { result ≡ ending_first opened.condition opened.guarded (drop opened.at nodes.now) }
 {
-    match nodes_behind(nodes, opened.at).split_first() {
+    match nodes_after(nodes, opened.at).split_first() {
         Some((first, inside)) => ending(&first.head, opened.condition, opened.guarded, inside),
         None => Outcome::Goes,
     }
@@ -172,7 +172,7 @@ fn raise(alloc: Global, nodes: &mut Vec<RenderNode>, at: usize) -> Result<(), Al
     requires { at < length nodes.old.items }
     ensures { OnOk result (nodes.new.items ≡ with_raised at nodes.old.items) }
 {
-    let raised = raised_second(alloc, nodes_behind(nodes.as_slice(), at))?;
+    let raised = raised_second(alloc, nodes_after(nodes.as_slice(), at))?;
     nodes.truncate(at + 1);
     to_raised(&mut nodes[at], raised);
     Ok(())

@@ -45,7 +45,7 @@ pub(crate) fn is_shallow_empty(head: &Head, alone: bool) -> bool
 }
 
 // the nodes after so many
-pub(crate) fn nodes_behind(nodes: &[RenderNode], count: usize) -> &[RenderNode]
+pub(crate) fn nodes_after(nodes: &[RenderNode], count: usize) -> &[RenderNode]
     requires { count ≤ length nodes.now }
     ensures { result.now ≡ drop count nodes.now }
 {
@@ -63,7 +63,7 @@ pub fn all_shallow_empty(nodes: &[RenderNode]) -> bool
         if !is_shallow_empty(&first.head, first.below == 0) {
             return false;
         }
-        rest = nodes_behind(others, first.below);
+        rest = nodes_after(others, first.below);
     }
     true
 }

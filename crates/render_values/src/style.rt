@@ -2,7 +2,7 @@
 ghost use Rattle.std.specs.Prelude.{◌≡◌};
 ghost use Rattle.render_values.specs.Looks.{plain, within};
 
-use text_marks::Colour;
+use text_decorators::Colour;
 use text_pieces::WhiteSpace;
 
 /// How a value looks, where a rule of style says so.

@@ -3,17 +3,17 @@ use crate::case::{Case, case_of};
 use crate::pages::{compare, config_of};
 use anyhow::{Result, bail};
 use article_answers::LayArticle;
-use article_laying::{ArticleLine, LineOptions};
+use article_layout::{ArticleLine, LineOptions};
 use article_values::Article;
 use article_writing::WriteArticle;
-use dom_serializer::SerializeDom;
+use dom_writing::SerializeDom;
 use html_lexemes::Device;
 use page_config::Error as PageError;
-use row_fields::push_line;
 use std::alloc::Global;
 use std::str;
 use stored_lines::{push_elements, tree_of};
-use tree_lines::lines_of;
+use test_fields::push_line;
+use test_tree_lines::lines_of;
 
 /// The page of an article, its lines and the tree of the page, or the article's first fault. The first line has the
 /// width and options; the second may be a title; then comes a value a line, after a space for each that it stands in.

@@ -1,10 +1,10 @@
 //! An article, from its lines.
 use crate::values::{Line, Values};
 use anyhow::{Result, bail};
-use article_laying::LineOptions;
+use article_layout::LineOptions;
 use article_values::{Article, ArticleError};
-use row_fields::unescaped;
 use std::alloc::Global;
+use test_fields::unescaped;
 
 /// An article, or its first fault, and how it is laid out.
 #[derive(Drop)]

@@ -1,6 +1,6 @@
 //! The lines of the page that is written of an article.
 use anyhow::{Result, bail};
-use article_laying::{ArticleLine, LineOptions};
+use article_layout::{ArticleLine, LineOptions};
 use html_lexemes::{Device, ReferenceTable};
 use page_config::{Config, Error as PageError, Page, PlainLine};
 use std::alloc::Global;

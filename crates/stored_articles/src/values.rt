@@ -1,8 +1,8 @@
 //! The values of an article, from lines.
 use anyhow::{Result, bail};
 use article_values::{Block, Inline};
-use row_fields::unescaped;
 use std::alloc::Global;
+use test_fields::unescaped;
 
 /// A line of a value.
 #[derive(Clone, Copy)]

@@ -1,9 +1,9 @@
 //! A renderer that the calls of a script go to.
 use anyhow::{Result, bail};
 use block_renderer::SubRenderer;
-use renderer_calls::Renderer;
-use row_fields::unescaped;
+use block_trait::Renderer;
 use std::alloc::Global;
+use test_fields::unescaped;
 use text_decorators::TextDecorator;
 use text_pieces::{BlockError, WhiteSpace};
 

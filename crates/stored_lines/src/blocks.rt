@@ -4,7 +4,7 @@ use crate::calls::performed;
 use crate::elements::{Named, push_elements};
 use anyhow::{Result, bail};
 use block_renderer::SubRenderer;
-use renderer_calls::{ImageRenderMode, RenderOptions};
+use block_trait::{ImageRenderMode, RenderOptions};
 use std::alloc::Global;
 use text_borders::RenderLine;
 use text_decorators::{PlainDecorator, RichDecorator, TextDecorator};

@@ -2,10 +2,10 @@
 use crate::block::{Answer, Block, Pieces};
 use anyhow::{Result, bail};
 use block_renderer::SubRenderer;
-use renderer_calls::Renderer;
-use row_fields::unescaped;
+use block_trait::Renderer;
 use std::alloc::Global;
 use std::mem;
+use test_fields::unescaped;
 use text_decorators::TextDecorator;
 use text_pieces::BlockError;
 

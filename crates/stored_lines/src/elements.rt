@@ -1,8 +1,8 @@
 //! Lines of tagged text, as fields.
-use row_fields::push_escaped;
 use std::alloc::AllocError;
-use tagged_lines::{TaggedLine, TaggedLineElement};
+use test_fields::push_escaped;
 use text_decorators::{Colour, RichAnnotation};
+use text_lines::{TaggedLine, TaggedLineElement};
 
 /// An annotation that has a name.
 pub trait Named {

@@ -1,7 +1,7 @@
 //! Options of a configuration.
 use anyhow::{Result, bail};
+use block_trait::ImageRenderMode;
 use html_render_tree::RenderConfig;
-use renderer_calls::ImageRenderMode;
 use std::alloc::Global;
 use std::num::NonZeroUsize;
 use text_decorators::TextDecorator;

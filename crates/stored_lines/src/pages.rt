@@ -3,16 +3,16 @@ use crate::elements::{Named, push_elements};
 use crate::options::{PageOption, options_of};
 use crate::rules::rule_of;
 use anyhow::{Result, bail};
+use dom_styles::StyleRule;
 use html_lexemes::ReferenceTable;
 use html_render_dom::RcDom;
 use html_render_tree::{RenderConfig, RenderError};
 use html_tree_builder::ParseOpts;
 use page_reading::PageReader;
-use row_fields::unescaped;
 use std::alloc::Global;
-use style_cascade::StyleRule;
-use tagged_lines::TaggedLine;
+use test_fields::unescaped;
 use text_decorators::{PlainDecorator, RichDecorator, TextDecorator, TrivialDecorator};
+use text_lines::TaggedLine;
 
 /// A page, and how it is rendered, but for its decorator.
 #[derive(Drop)]

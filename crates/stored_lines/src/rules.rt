@@ -1,9 +1,9 @@
 //! Rules of style.
 use anyhow::{Result, bail};
+use dom_styles::{Display, Importance, Style, StyleDecl, StyleOrigin, StylePlace, StyleRule};
 use html_lexemes::{LocalName, Text};
-use row_fields::unescaped;
 use std::alloc::Global;
-use style_cascade::{Display, Importance, Style, StyleDecl, StyleOrigin, StylePlace, StyleRule};
+use test_fields::unescaped;
 use text_decorators::Colour;
 use text_pieces::WhiteSpace;
 

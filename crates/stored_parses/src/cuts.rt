@@ -1,7 +1,7 @@
 //! Texts that come in pieces.
 use anyhow::{Result, bail};
-use row_fields::{characters, halves, whole};
 use std::alloc::Global;
+use test_fields::{characters, halves, whole};
 
 /// A way to read a text.
 pub(crate) trait Reading {

@@ -4,10 +4,10 @@ use anyhow::{Result, bail};
 use html_lexemes::states::{RawKind, State};
 use html_lexemes::{LocalName, ReferenceTable};
 use html_tokenizer::{TokenizerOpts, read_pieces, read_plainly};
-use row_fields::{NO_TEXT, unescaped};
 use std::alloc::Global;
-use token_lines::{Listed, Listing, lines_of};
-use token_sinks::KeptTokens;
+use test_fields::{NO_TEXT, unescaped};
+use test_token_lines::{Listed, Listing, lines_of};
+use test_token_sinks::KeptTokens;
 
 /// How a text is read, and what of it has lines.
 #[derive(Drop)]

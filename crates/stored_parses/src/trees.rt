@@ -4,9 +4,9 @@ use anyhow::{Result, bail};
 use html_lexemes::{Attributes, LocalName, Namespace, ParseFault, QualName, ReferenceTable};
 use html_render_dom::RcDom;
 use html_tree_builder::{ParseOpts, parse_fragment_pieces, parse_pieces};
-use row_fields::{NO_TEXT, unescaped};
 use std::alloc::{AllocError, Global};
-use tree_lines::{lines_below, lines_of};
+use test_fields::{NO_TEXT, unescaped};
+use test_tree_lines::{lines_below, lines_of};
 
 // the most bytes of a page that is cut everywhere
 const MOST_CUT: usize = 64;

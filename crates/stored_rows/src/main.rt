@@ -32,7 +32,7 @@ fn write_answers<W: Write>(alloc: Global, text: &str, output: &mut W) -> Result<
             continue;
         }
         let answer = answer_of(alloc, &table, kind, asked);
-        let answer = answer.context(format_args!("behind {before} cases"))?;
+        let answer = answer.context(format_args!("after {before} cases"))?;
         output.write_all(answer.as_bytes())?;
     }
     Ok(())

@@ -1,6 +1,6 @@
 -- The steps of a grid put together.
-use Rattle.std.proofs.Common.{rules, ◌≡◌, ℕ, ◌+◌, ◌-◌, ◌<◌, ◌≤◌, Bool, true, false, nat_lt, List}
-use Rattle.std.proofs.Common.{length, get_or, map, filter, subst, sym, ap, refl, ◌∙◌, arith, All, Contains}
+use Rattle.std.proofs.Common.{◌≡◌, ◌+◌, ◌-◌, ◌<◌, ◌≤◌, ◌∙◌, All, Bool, Contains, List, ap, arith, false, filter, get_or}
+use Rattle.std.proofs.Common.{length, map, nat_lt, refl, rules, subst, sym, true, ℕ}
 use Rattle.std.specs.List.Sorted.{IsStrictlyIncreasing, IsSorted, IsNonDecreasingBy}
 use Rattle.std.specs.Ordering.{nat_cmp, is_lt}
 use Rattle.std.proofs.lemmas.Bool.Decides.{nat_tests}
@@ -8,17 +8,17 @@ use Rattle.std.proofs.lemmas.List.{get_or-map, length-map}
 use Rattle.std.proofs.lemmas.List.Elements.{All-map, Contains-get_or, Contains-append_left, Contains-append_right}
 use Rattle.std.proofs.lemmas.List.Kept.{IsNonDecreasingBy-filter}
 use Rattle.std.proofs.lemmas.Map.Keys.{IsStrictlyIncreasing-dedup}
-use Rattle.table_places.specs.declared.cell.Cell.{Cell}
-use Rattle.table_places.specs.declared.cell.PlacedCell.{PlacedCell}
-use Rattle.table_places.specs.Places.{cell_of, left_of, right_of, ArePlaced}
+use Rattle.table_grid.specs.declared.cell.Cell.{Cell}
+use Rattle.table_grid.specs.declared.cell.PlacedCell.{PlacedCell}
+use Rattle.table_grid.specs.Places.{cell_of, left_of, right_of, ArePlaced}
 use Rattle.table_grid.specs.declared.edges.SpannedCell.{SpannedCell}
 use Rattle.table_grid.specs.declared.columns.Column.{Column}
 use Rattle.table_grid.specs.declared.grid.GridCell.{GridCell}
 use Rattle.table_grid.specs.declared.grid.GridGap.{GridGap}
-use Rattle.table_places.specs.declared.gaps.Gap.{Gap}
-use Rattle.table_places.specs.Gaps.{IsGap, AreGaps}
-use Rattle.table_grid.specs.Grid.{rank, AreEdges, span_in, span_left, has_column, row_of, rows_with_cells}
-use Rattle.table_grid.specs.Grid.{columns_between, has_size, grid_cell, gap_left, IsGrid}
+use Rattle.table_grid.specs.declared.gaps.Gap.{Gap}
+use Rattle.table_grid.specs.Gaps.{IsGap, AreGaps}
+use Rattle.table_grid.specs.Grid.{AreEdges, IsGrid, columns_between, gap_left, grid_cell, has_column, has_size, rank}
+use Rattle.table_grid.specs.Grid.{row_of, rows_with_cells, span_in, span_left}
 use Rattle.table_grid.proofs.RankLemmas.{rank_less, rank_within, rank_rises}
 
 map_contains : {X : Type 0} (f : X → ℕ) (xs : List X) (k : ℕ) (d : X) → k < length xs →

@@ -1,7 +1,6 @@
 -- Ranks among rising numbers.
-use Rattle.std.proofs.Common.{◌≡◌, ℕ, zero, suc, ◌<◌, ◌≤◌, Bool, true, false, cond, nat_lt, List, [], ◌∷◌}
-use Rattle.std.proofs.Common.{length, get_or, subst, sym, refl, ◌∙◌, arith}
-use Rattle.std.proofs.Common.{Contains, eqb, IsPermutation}
+use Rattle.std.proofs.Common.{◌≡◌, ◌<◌, ◌≤◌, [], ◌∷◌, ◌∙◌, Bool, Contains, IsPermutation, List, arith, cond, eqb, false}
+use Rattle.std.proofs.Common.{get_or, length, nat_lt, refl, subst, suc, sym, true, zero, ℕ}
 use Rattle.std.specs.List.{dedup}
 use Rattle.std.specs.List.Sorted.{IsStrictlyIncreasing, IsSorted}
 use Rattle.std.specs.Ordering.{nat_cmp}
@@ -11,7 +10,7 @@ use Rattle.std.proofs.lemmas.List.Sums.{sum_by-cons}
 use Rattle.std.proofs.lemmas.List.Kept.{AllPairs-from_increasing, Contains-dedup_nat, Contains-from_dedup}
 use Rattle.std.proofs.lemmas.List.Sorted.{Contains-permutation, IsPermutation-sym}
 use Rattle.std.proofs.lemmas.Map.Keys.{IsStrictlyIncreasing-dedup}
-use Rattle.table_places.specs.declared.cell.PlacedCell.{PlacedCell}
+use Rattle.table_grid.specs.declared.cell.PlacedCell.{PlacedCell}
 use Rattle.table_grid.specs.Grid.{rank, sides, AreEdges}
 
 pub rank_is : (xs : List ℕ) (x i : ℕ) → i ≤ length xs → ((j : ℕ) → j < i → get_or xs j 0 < x) →

@@ -1,22 +1,20 @@
 -- A column asks for no more at least than in all.
-use Rattle.std.proofs.Common.{◌≡◌, ℕ, ◌+◌, ◌-◌, ◌*◌, ◌/◌, ◌<◌, ◌≤◌, max, Bool, true, false, cond, nat_lt}
-use Rattle.std.proofs.Common.{List, [], ◌∷◌, length, get_or, map, filter, subst, sym, ap, refl, ◌∙◌}
-use Rattle.std.proofs.Common.{arith, All}
+use Rattle.std.proofs.Common.{◌≡◌, ◌+◌, ◌-◌, ◌*◌, ◌/◌, ◌<◌, ◌≤◌, [], ◌∷◌, ◌∙◌, All, Bool, List, ap, arith, cond, false}
+use Rattle.std.proofs.Common.{filter, get_or, length, map, max, nat_lt, refl, subst, sym, true, ℕ}
 use Rattle.std.specs.List.{range_with_len}
 use Rattle.std.proofs.Math.Nat.{mul-le-mul_left, mul-div-le, lt-mul-div-succ}
 use Rattle.std.proofs.lemmas.Bool.Decides.{nat_tests}
 use Rattle.std.proofs.lemmas.List.{get_or-map, length-map}
 use Rattle.std.proofs.lemmas.List.Elements.{All-map, All-head, All-tail, All-filter, filter_passes, All-weaker}
-use Rattle.table_columns.specs.Columns.{covers, value_of, greatest, greatest_at}
-use Rattle.table_places.specs.declared.cell.Cell.{Cell}
-use Rattle.table_places.specs.declared.cell.PlacedCell.{PlacedCell}
-use Rattle.table_places.specs.Places.{cell_of, ArePlaced}
+use Rattle.table_grid.specs.Columns.{covers, value_of, greatest, greatest_at}
+use Rattle.table_grid.specs.declared.cell.Cell.{Cell}
+use Rattle.table_grid.specs.declared.cell.PlacedCell.{PlacedCell}
+use Rattle.table_grid.specs.Places.{cell_of, ArePlaced}
 use Rattle.table_grid.specs.declared.edges.SpannedCell.{SpannedCell}
 use Rattle.table_grid.specs.declared.columns.Column.{Column}
 use Rattle.table_grid.specs.declared.grid.GridCell.{GridCell}
 use Rattle.table_grid.specs.declared.grid.GridGap.{GridGap}
-use Rattle.table_grid.specs.Grid.{span_in, size_part, least_part, column_at, has_size, all_columns}
-use Rattle.table_grid.specs.Grid.{IsGrid}
+use Rattle.table_grid.specs.Grid.{IsGrid, all_columns, column_at, has_size, least_part, size_part, span_in}
 use Rattle.table_grid.proofs.GridLemmas.{spanned_some}
 
 div_rises : (a b k : ℕ) → 0 < k → a ≤ b → a / k ≤ b / k

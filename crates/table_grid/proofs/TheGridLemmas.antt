@@ -1,6 +1,5 @@
 -- The grid that a function gives is the one that the relation says.
-use Rattle.std.proofs.Common.{◌≡◌, ℕ, ◌+◌, ◌≤◌, ◌==◌, true, List, get_or, map, refl, sym, subst, ◌∙◌, arith}
-use Rattle.std.proofs.Common.{All}
+use Rattle.std.proofs.Common.{◌≡◌, ◌+◌, ◌≤◌, ◌==◌, ◌∙◌, All, List, arith, get_or, map, refl, subst, sym, true, ℕ}
 use Rattle.std.specs.List.{filter, range_with_len, Any}
 use Rattle.std.specs.List.Sorted.{IsNonDecreasingBy, IsStrictlyIncreasing}
 use Rattle.std.proofs.lemmas.Bool.Decides.{nat_tests}
@@ -9,13 +8,13 @@ use Rattle.std.proofs.lemmas.List.Elements.{All-append, All-contains, All-map, f
 use Rattle.std.proofs.lemmas.List.Folds.{Any-from_list_any, list_any_at}
 use Rattle.std.proofs.lemmas.List.FromFn.{length-range_with_len, get_or-range_with_len}
 use Rattle.std.proofs.lemmas.List.Kept.{IsStrictlyIncreasing-filter}
-use Rattle.table_places.specs.declared.cell.Cell.{Cell}
-use Rattle.table_places.specs.declared.cell.PlacedCell.{PlacedCell}
-use Rattle.table_places.specs.Gaps.{AreGaps}
-use Rattle.table_places.specs.Places.{cell_of, left_of, right_of, ArePlaced}
-use Rattle.table_places.specs.Placing.{end_of, gaps_of, places_of}
-use Rattle.table_places.proofs.NumberLemmas.{number_in}
-use Rattle.table_places.proofs.PlacingLemmas.{ends_within}
+use Rattle.table_grid.specs.declared.cell.Cell.{Cell}
+use Rattle.table_grid.specs.declared.cell.PlacedCell.{PlacedCell}
+use Rattle.table_grid.specs.Gaps.{AreGaps}
+use Rattle.table_grid.specs.Places.{cell_of, left_of, right_of, ArePlaced}
+use Rattle.table_grid.specs.Placing.{end_of, gaps_of, places_of}
+use Rattle.table_grid.proofs.NumberLemmas.{number_in}
+use Rattle.table_grid.proofs.PlacingLemmas.{ends_within}
 use Rattle.table_grid.specs.Grid.{sides, AreEdges, IsGrid}
 use Rattle.table_grid.specs.TheGrid.{is_edge, edges_of, grid}
 use Rattle.table_grid.proofs.GridLemmas.{map_rose}

@@ -1,20 +1,20 @@
 -- The grid of a table: columns between the edges of its cells, what each asks for, and what is left without those of
 -- size 0.
-use Rattle.std.specs.Prelude.{◌≡◌, ℕ, ◌+◌, ◌-◌, ◌/◌, Bool, ◌&&◌, nat_le, nat_lt, List, ◌++◌}
-use Rattle.std.specs.Prelude.{length, take, map, filter, count_by, Contains, eqb}
+use Rattle.std.specs.Prelude.{◌≡◌, ◌+◌, ◌-◌, ◌/◌, ◌&&◌, ◌++◌, Bool, Contains, List, count_by, eqb, filter, length, map}
+use Rattle.std.specs.Prelude.{nat_le, nat_lt, take, ℕ}
 use Rattle.std.specs.List.{range_with_len, dedup}
 use Rattle.std.specs.List.Sorted.{IsStrictlyIncreasing}
-use Rattle.table_places.specs.declared.cell.Cell.{Cell}
-use Rattle.table_places.specs.declared.cell.PlacedCell.{PlacedCell}
-use Rattle.table_places.specs.Places.{left_of, right_of, ArePlaced}
-use Rattle.table_columns.specs.declared.part.Part.{Part}
-use Rattle.table_columns.specs.Columns.{greatest_at}
+use Rattle.table_grid.specs.declared.cell.Cell.{Cell}
+use Rattle.table_grid.specs.declared.cell.PlacedCell.{PlacedCell}
+use Rattle.table_grid.specs.Places.{left_of, right_of, ArePlaced}
+use Rattle.table_grid.specs.declared.part.Part.{Part}
+use Rattle.table_grid.specs.Columns.{greatest_at}
 use Rattle.table_grid.specs.declared.edges.SpannedCell.{SpannedCell}
 use Rattle.table_grid.specs.declared.columns.Column.{Column}
 use Rattle.table_grid.specs.declared.grid.GridCell.{GridCell}
 use Rattle.table_grid.specs.declared.grid.GridGap.{GridGap}
-use Rattle.table_places.specs.declared.gaps.Gap.{Gap}
-use Rattle.table_places.specs.Gaps.{AreGaps}
+use Rattle.table_grid.specs.declared.gaps.Gap.{Gap}
+use Rattle.table_grid.specs.Gaps.{AreGaps}
 
 -- the edges of the cells
 abbrev pub sides : List PlacedCell → List ℕ

@@ -1,3 +1,15 @@
+pub mod ColumnRowWords
+pub mod Columns
+pub mod Covers
+pub mod Ends
+pub mod Gaps
 pub mod Grid
-pub mod RowWords
+pub mod GridRowWords
+pub mod PlaceLaws
+pub mod PlaceRowWords
+pub mod Places
+pub mod Placing
+pub mod RowGaps
 pub mod TheGrid
+pub mod Windows
+pub mod Without

@@ -1,9 +1,9 @@
 -- The grid of a table, as a function: a law says that it is the one that the relation says.
 use Rattle.std.specs.Prelude.{ℕ, ◌+◌, ◌==◌, Bool, List, map, filter}
 use Rattle.std.specs.List.{list_any, range_with_len}
-use Rattle.table_places.specs.declared.cell.Cell.{Cell}
-use Rattle.table_places.specs.declared.cell.PlacedCell.{PlacedCell}
-use Rattle.table_places.specs.Placing.{end_of, gaps_of, places_of}
+use Rattle.table_grid.specs.declared.cell.Cell.{Cell}
+use Rattle.table_grid.specs.declared.cell.PlacedCell.{PlacedCell}
+use Rattle.table_grid.specs.Placing.{end_of, gaps_of, places_of}
 use Rattle.table_grid.specs.Grid.{all_columns, gap_left, grid_cell, has_size, rows_with_cells, sides, spans_of}
 use Rattle.table_grid.specs.declared.columns.Column.{Column}
 use Rattle.table_grid.specs.declared.grid.GridCell.{GridCell}

@@ -2,9 +2,10 @@
 ghost use Rattle.std.specs.Prelude.{◌≡◌, ℕ, ◌+◌, ◌^◌, ◌<◌, ◌≤◌, All, IfOk, filter, get_or, length};
 ghost use Rattle.table_grid.specs.Grid.{columns_between, has_size, left_before};
 
+use crate::asked_columns::greatest_parts;
 use crate::edges::SpannedCell;
+use crate::part::Part;
 use std::alloc::{AllocError, Global};
-use table_columns::{Part, greatest_parts};
 
 /// What a column of a table asks for, in columns of text.
 #[derive(Clone, Copy, Debug, PartialEq, Eq)]

@@ -1,11 +1,11 @@
 //! Edges of cells, and the columns between them.
 ghost use Rattle.std.specs.Prelude.{◌≡◌, ◌^◌, ◌<◌, All, IfOk, map};
 ghost use Rattle.std.specs.List.Sorted.{IsStrictlyIncreasing};
-ghost use Rattle.table_places.specs.Places.{right_of};
+ghost use Rattle.table_grid.specs.Places.{right_of};
 ghost use Rattle.table_grid.specs.Grid.{AreEdges, rank, span_in};
 
+use crate::cell::{Cell, PlacedCell};
 use std::alloc::{AllocError, Global};
-use table_places::{Cell, PlacedCell};
 
 /// A cell by the columns that it takes: those from `first` to before `last`.
 #[derive(Clone, Copy, Debug, PartialEq, Eq)]

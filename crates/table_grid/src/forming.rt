@@ -4,13 +4,14 @@ ghost use Rattle.std.specs.List.Sorted.{IsNonDecreasingBy};
 ghost use Rattle.table_grid.specs.Grid.{IsGrid};
 ghost use Rattle.table_grid.specs.TheGrid.{grid as the_grid};
 
+use crate::cell::Cell;
 use crate::columns::{columns_left, columns_of};
 use crate::edges::{edges_of, span_cells};
 use crate::grid::Grid;
+use crate::grid_laws::{cells_have_a_grid, one_grid};
 use crate::kept::{gaps_left, grid_cells, rows_left, spans_left};
-use crate::laws::{cells_have_a_grid, one_grid};
+use crate::places::{Places, place_cells};
 use std::alloc::{AllocError, Global};
-use table_places::{Cell, Places, place_cells};
 
 /// The grid of the cells of a table, which are given row by row. A column lies between neighbouring distinct edges of
 /// cells; its size is the greatest that its cells ask of each of their columns, its least the same of leasts. Columns

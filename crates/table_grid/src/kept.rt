@@ -5,9 +5,9 @@ ghost use Rattle.table_grid.specs.Grid.{gap_left, grid_cell, rank, rows_with_cel
 
 use crate::columns::{Column, counts_before};
 use crate::edges::{SpannedCell, rank_in};
+use crate::gaps::Gap;
 use crate::grid::{GridCell, GridGap};
 use std::alloc::{AllocError, Global};
-use table_places::Gap;
 
 /// The cells with their columns among those that are left.
 pub(crate) fn spans_left(

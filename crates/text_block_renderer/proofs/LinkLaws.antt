@@ -3,13 +3,13 @@ use Rattle.std.proofs.Common.{ℕ, Bool, true, false, List, [], ◌∷◌, ◌++
 use Rattle.std.specs.Prelude.{All, IsSomeAnd, if◌then◌else◌}
 use Rattle.std.specs.Option.{option_map}
 use Rattle.std.proofs.lemmas.List.Elements.{All-nil, All-head, All-tail, All-cons, All-push}
-use Rattle.text_marks.specs.Marks.{link_start, link_end}
-use Rattle.link_targets.specs.Targets.{last_number}
-use Rattle.renderer_laws.proofs.OptionLemmas.{mapped, chained, given_mapped, given_chained}
-use Rattle.renderer_calls.specs.Renderers.{Marking, Sub, add_inline, begin_link, finish_link}
-use Rattle.renderer_laws.specs.RendererLaws.{IsKeptWithin, StaysWithin, HasRoom}
-use Rattle.text_block_renderer.specs.Parts.{Parts, with_part, with_current, with_target, begin_part_link, footnote_mark}
-use Rattle.text_block_renderer.specs.Parts.{numbered, add_part_number, finish_part_link}
+use Rattle.text_decorators.specs.Marks.{link_start, link_end}
+use Rattle.text_footnotes.specs.Targets.{last_number}
+use Rattle.block_layout_laws.proofs.OptionLemmas.{mapped, chained, given_mapped, given_chained}
+use Rattle.block_trait.specs.Renderers.{Marking, Sub, add_inline, begin_link, finish_link}
+use Rattle.block_laws.specs.RendererLaws.{IsKeptWithin, StaysWithin, HasRoom}
+use Rattle.text_block_renderer.specs.Parts.{Parts, add_part_number, begin_part_link, finish_part_link, footnote_mark}
+use Rattle.text_block_renderer.specs.Parts.{numbered, with_current, with_part, with_target}
 use Rattle.text_block_renderer.specs.PartLaws.{AreKeptWithin, PartsStayWithin, HaveRoom}
 
 -- ---- a part that begins and ends

@@ -2,9 +2,9 @@
 use Rattle.std.proofs.Common.{◌≡◌, ℕ, true, if◌then◌else◌, List, [], ◌∷◌, ◌++◌, refl, sym, ap, ◌∙◌}
 use Rattle.std.specs.Prelude.{Option, Some, fold}
 use Rattle.std.specs.Option.{option_map}
-use Rattle.link_targets.specs.Targets.{last_number}
-use Rattle.renderer_laws.specs.LaidRows.{before_last}
-use Rattle.renderer_calls.specs.Renderers.{Marking, Sub, add_inline}
+use Rattle.text_footnotes.specs.Targets.{last_number}
+use Rattle.block_layout.specs.LaidRows.{before_last}
+use Rattle.block_trait.specs.Renderers.{Marking, Sub, add_inline}
 use Rattle.text_block_renderer.specs.Parts.{Parts, with_part, with_current, footnote_mark, add_part_number}
 
 front_of : {A : Type 0} (front : List A) (x : A) → before_last (front ++ x ∷ []) ≡ front

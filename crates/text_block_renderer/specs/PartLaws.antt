@@ -1,6 +1,6 @@
 -- Words of the laws on renderers of a page.
 use Rattle.std.specs.Prelude.{◌≡◌, All}
-use Rattle.renderer_laws.specs.RendererLaws.{IsKeptWithin, StaysWithin, HasRoom}
+use Rattle.block_laws.specs.RendererLaws.{IsKeptWithin, StaysWithin, HasRoom}
 use Rattle.text_block_renderer.specs.Parts.{Parts}
 
 -- No character may overflow in any of them, and what each has laid is within its width.

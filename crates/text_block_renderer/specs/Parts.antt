@@ -2,9 +2,9 @@
 use Rattle.std.specs.Prelude.{ℕ, ◌+◌, List, [], ◌∷◌, ◌++◌, Option, Some, length, codes, if◌then◌else◌}
 use Rattle.std.specs.Fmt.{decimal}
 use Rattle.std.specs.Option.{option_map, option_and_then}
-use Rattle.text_marks.specs.Marks.{link_start, link_end}
-use Rattle.link_targets.specs.Targets.{last_number}
-use Rattle.renderer_calls.specs.Renderers.{Marking, Sub, add_inline, begin_link, finish_link}
+use Rattle.text_decorators.specs.Marks.{link_start, link_end}
+use Rattle.text_footnotes.specs.Targets.{last_number}
+use Rattle.block_trait.specs.Renderers.{Marking, Sub, add_inline, begin_link, finish_link}
 
 -- The renderers below the current one, the whole page's first; the current one, to which text goes; the targets of the
 -- links so far.

@@ -1,7 +1,7 @@
 -- Pages as plain text: what its decorator marks, and what it closes a page with.
 use Rattle.std.specs.Prelude.{ℕ, false, List}
-use Rattle.renderer_calls.specs.Renderers.{Marking}
-use Rattle.tagged_lines.specs.Tagged.{Item}
+use Rattle.block_trait.specs.Renderers.{Marking}
+use Rattle.text_lines.specs.Tagged.{Item}
 use Rattle.text_decorators.specs.Texts.{footnote_lines, plain_text}
 
 abbrev pub plain_marking : Marking (Unit {0}) (Unit {0})

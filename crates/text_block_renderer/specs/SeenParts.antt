@@ -1,11 +1,11 @@
 -- What contracts see of a renderer of a page.
-use Rattle.std.specs.Prelude.{◌≡◌, ℕ, Bool, List, Option, None, Some, map}
-use Rattle.text_marks.specs.Marks.{DecoratorView, Mark}
-use Rattle.link_targets.specs.Links.{all_targets}
-use Rattle.renderer_calls.specs.Renderers.{Marking}
+use Rattle.std.specs.Prelude.{◌≡◌, Bool, Option, None, Some, map}
+use Rattle.text_decorators.specs.Marks.{DecoratorView}
+use Rattle.text_footnotes.specs.Links.{all_targets}
+use Rattle.block_trait.specs.Renderers.{Marking}
 use Rattle.text_block_renderer.specs.Parts.{Parts}
-use Rattle.renderer_laws.specs.Seen.{sub_of, marking, IsTagging}
-use Rattle.renderer_laws.specs.SubRenderer.{SubRenderer}
+use Rattle.block_renderer.specs.Seen.{sub_of, marking, IsTagging}
+use Rattle.block_renderer.specs.declared.sub_renderer.SubRenderer.{SubRenderer}
 use Rattle.text_block_renderer.specs.declared.text_renderer.TextRenderer.{TextRenderer}
 
 abbrev pub parts_of : {D T H A : Type 0} → (T → A) → (D → H) → TextRenderer D T → Parts H A

@@ -1,12 +1,12 @@
 //! Laws of renderers of a page: each is the contract of a function that does nothing.
 ghost use Rattle.std.specs.Prelude.{◌≡◌, ℕ, List, Some, IsSomeAnd};
-ghost use Rattle.renderer_calls.specs.Renderers.{Marking, Sub};
-ghost use Rattle.renderer_laws.specs.RendererLaws.{IsKeptWithin, HasRoom};
-ghost use Rattle.text_block_renderer.specs.Parts.{Parts, whole_page, with_part, with_current};
-ghost use Rattle.text_block_renderer.specs.Parts.{begin_part_link, finish_part_link};
+ghost use Rattle.block_trait.specs.Renderers.{Marking, Sub};
+ghost use Rattle.block_laws.specs.RendererLaws.{IsKeptWithin, HasRoom};
+ghost use Rattle.text_block_renderer.specs.Parts.{Parts, begin_part_link, finish_part_link, whole_page, with_current};
+ghost use Rattle.text_block_renderer.specs.Parts.{with_part};
 ghost use Rattle.text_block_renderer.specs.PartLaws.{AreKeptWithin, PartsStayWithin, HaveRoom};
 
-use renderer_laws::{renderers_keep_the_width, renderers_with_room_never_refuse};
+use block_laws::{renderers_keep_the_width, renderers_with_room_never_refuse};
 use text_decorators::TextDecorator;
 
 /// No line of a page's renderers passes the width of its renderer, where no character may overflow: so it is with a new

@@ -1,18 +1,19 @@
 //! Renderers of the parts of a page, one within the other.
-ghost use Rattle.std.specs.Prelude.{◌≡◌, ◌⊎◌, ◌<◌, true, false, chars, string_bytes, is_err, IfErr, IfOk, OnErr, OnOk};
-ghost use Rattle.std.specs.Prelude.{Err};
+ghost use Rattle.std.specs.Prelude.{◌≡◌, ◌⊎◌, ◌<◌, Err, IfErr, IfOk, OnErr, OnOk, chars, false, is_err, string_bytes};
+ghost use Rattle.std.specs.Prelude.{true};
 ghost use Rattle.text_pieces.specs.declared.fault.BlockError.TheVariants as errors;
 ghost use Rattle.text_block_renderer.specs.Parts.{footnote_mark};
 ghost use Rattle.std.specs.Borrow.{sem, follows};
 ghost use Rattle.text_block_renderer.specs.contracts.text_renderer.TextRenderer.{the_row};
-ghost use Rattle.renderer_laws.specs.SubRendererContracts.{the_row as sub_row};
+ghost use Rattle.block_renderer.specs.contracts.sub_renderer.SubRenderer.{the_row as sub_row};
 
-use link_targets::LinkTargets;
-use renderer_laws::{Renderer, SubRenderer};
+use block_renderer::SubRenderer;
+use block_trait::Renderer;
 use std::alloc::{AllocError, Global};
 use std::mem;
 use text_decorators::TextDecorator;
-use text_wrapping::BlockError;
+use text_footnotes::LinkTargets;
+use text_pieces::BlockError;
 
 /// A renderer of a page: one of the whole, and above it those of the parts that have begun, to the last of which text
 /// goes; and the targets of the links so far.
@@ -37,13 +38,13 @@ impl<D: TextDecorator + Drop> Drop for TextRenderer<D> {
 }
 
 impl<D: TextDecorator + Drop> TextRenderer<D> {
-    ghost use Rattle.renderer_laws.specs.Seen.{sub_of, has_failed};
-    ghost use Rattle.renderer_calls.specs.Renderers.{Sub};
-    ghost use Rattle.text_block_renderer.specs.Parts.{Parts, whole_page, depth_of, with_part, with_current};
-    ghost use Rattle.text_block_renderer.specs.Parts.{begin_part_link, finish_part_link, add_part_number};
-    ghost use Rattle.text_block_renderer.specs.SeenParts.{parts_of, page_has_failed, current_has_failed};
-    ghost use Rattle.text_block_renderer.specs.SeenParts.{with_current_renderer, PartsCome, PartsFail};
-    ghost use Rattle.link_targets.specs.Links.{all_targets};
+    ghost use Rattle.block_renderer.specs.Seen.{sub_of, has_failed};
+    ghost use Rattle.block_trait.specs.Renderers.{Sub};
+    ghost use Rattle.text_block_renderer.specs.Parts.{Parts, add_part_number, begin_part_link, depth_of};
+    ghost use Rattle.text_block_renderer.specs.Parts.{finish_part_link, whole_page, with_current, with_part};
+    ghost use Rattle.text_block_renderer.specs.SeenParts.{PartsCome, PartsFail, current_has_failed, page_has_failed};
+    ghost use Rattle.text_block_renderer.specs.SeenParts.{parts_of, with_current_renderer};
+    ghost use Rattle.text_footnotes.specs.Links.{all_targets};
 
     /// A renderer of a page, of which no part has begun.
     pub fn new(alloc: Global, sub: SubRenderer<D>) -> TextRenderer<D>

@@ -1,26 +1,26 @@
 -- The columns of rows of cells.
-use Rattle.std.proofs.Common.{◌≡◌, ℕ, zero, suc, ◌+◌, ◌-◌, ◌<◌, ◌≤◌, Bool, true, false, List, [], ◌∷◌, ◌++◌, map}
-use Rattle.std.proofs.Common.{length, drop, replicate, if◌then◌else◌, sym, subst, ◌∙◌, refl, inl, inr, arith}
+use Rattle.std.proofs.Common.{◌≡◌, ◌+◌, ◌-◌, ◌<◌, ◌≤◌, [], ◌∷◌, ◌++◌, if◌then◌else◌, ◌∙◌, Bool, List, arith, drop}
+use Rattle.std.proofs.Common.{false, inl, inr, length, map, refl, replicate, subst, suc, sym, true, zero, ℕ}
 use Rattle.std.specs.Prelude.{nat_le, nat_lt, fold, max, All, Option, Some}
 use Rattle.std.specs.Option.{option_map}
 use Rattle.std.proofs.lemmas.List.{length-replicate}
 use Rattle.std.proofs.lemmas.List.Elements.{All-nil, All-cons, All-head, All-tail}
-use Rattle.tagged_lines.specs.Columns.{width_of}
-use Rattle.tagged_lines.specs.Tagged.{Item, character, marker, tagged, line_columns}
+use Rattle.text_lines.specs.Columns.{width_of}
+use Rattle.text_lines.specs.Tagged.{Item, character, marker, tagged, line_columns}
 use Rattle.text_pieces.proofs.ItemColumns.{line_columns-append, line_columns-cons}
 use Rattle.text_borders.specs.Segments.{Segment, with_up, with_down, joins_above, joins_below, runs_above}
-use Rattle.text_borders.specs.Borders.{Border, horizontal, stretched, change_to, columns_where, with_segments}
-use Rattle.text_borders.specs.Borders.{punched_at, punched, shown, line_above}
+use Rattle.text_borders.specs.Borders.{Border, change_to, columns_where, horizontal, line_above, punched, punched_at}
+use Rattle.text_borders.specs.Borders.{shown, stretched, with_segments}
 use Rattle.text_borders.specs.Lines.{BlockLine, text, border}
 use Rattle.text_borders.specs.BorderLaws.{AreInOrder, IsSound}
-use Rattle.text_borders.specs.Across.{CellLine, Cell, Hanging, empty_cell, seated_behind, seated, OpenCell, spaces}
-use Rattle.text_borders.specs.Across.{whole, open_line, open_first, close_line, close_behind, close_last, opened}
-use Rattle.text_borders.specs.Across.{row_width, signs, of_cells, joined_to_row, border_below, retagged, widened}
-use Rattle.text_borders.specs.Across.{line_or, cell_items, row_items, row_lines, row_height, goes_on, with_holes}
-use Rattle.text_borders.specs.Across.{further, hanging_of, sign_of, is_given, row_cells, width_across, across}
+use Rattle.text_borders.specs.Across.{Cell, CellLine, Hanging, OpenCell, across, border_below, cell_items, close_after}
+use Rattle.text_borders.specs.Across.{close_last, close_line, empty_cell, further, goes_on, hanging_of, is_given}
+use Rattle.text_borders.specs.Across.{joined_to_row, line_or, of_cells, open_first, open_line, opened, retagged}
+use Rattle.text_borders.specs.Across.{row_cells, row_height, row_items, row_lines, row_width, seated, seated_after}
+use Rattle.text_borders.specs.Across.{sign_of, signs, spaces, whole, widened, width_across, with_holes}
 use Rattle.text_borders.specs.AcrossLaws.{LineFits, CellFits}
-use Rattle.text_borders.proofs.BorderLemmas.{one_column, length-stretched, length-change_to, length-punched}
-use Rattle.text_borders.proofs.BorderLemmas.{order_wider, order_more, stands_at, punched_sound, border_columns}
+use Rattle.text_borders.proofs.BorderLemmas.{border_columns, length-change_to, length-punched, length-stretched}
+use Rattle.text_borders.proofs.BorderLemmas.{one_column, order_more, order_wider, punched_sound, stands_at}
 
 -- ---- lines of cells
 
@@ -159,20 +159,20 @@ push_fits width (x ∷ front) l all h =
     All-cons (λ y. LineFits width y.line) x (front ++ l ∷ []) (All-head (λ y. LineFits width y.line) x front all)
     (push_fits width front l (All-tail (λ y. LineFits width y.line) x front all) h)
 
-behind_fits : {S : Type 0} (tag : S) (front : List (CellLine S)) (l : CellLine S) (rest : List (CellLine S))
+after_fits : {S : Type 0} (tag : S) (front : List (CellLine S)) (l : CellLine S) (rest : List (CellLine S))
     (c : OpenCell S) → LinesFit c.width front → LinesFit c.width (l ∷ rest) → OpenFits c
-    → OpenFits (close_behind tag front l rest c)
-behind_fits tag front l [] c before all fits =
+    → OpenFits (close_after tag front l rest c)
+after_fits tag front l [] c before all fits =
     close_fits tag l.line front c (All-head (λ x. LineFits c.width x.line) l [] all) before fits
-behind_fits tag front l (m ∷ rest) c before all fits =
-    behind_fits tag (front ++ l ∷ []) m rest c
+after_fits tag front l (m ∷ rest) c before all fits =
+    after_fits tag (front ++ l ∷ []) m rest c
     (push_fits c.width front l before (All-head (λ x. LineFits c.width x.line) l (m ∷ rest) all))
     (All-tail (λ x. LineFits c.width x.line) l (m ∷ rest) all) fits
 
 last_fits : {S : Type 0} (tag : S) (lines : List (CellLine S)) (c : OpenCell S) → LinesFit c.width lines → OpenFits c
     → OpenFits (close_last tag lines c)
 last_fits tag [] c all fits = fits
-last_fits tag (l ∷ rest) c all fits = behind_fits tag [] l rest c (All-nil (λ x. LineFits c.width x.line)) all fits
+last_fits tag (l ∷ rest) c all fits = after_fits tag [] l rest c (All-nil (λ x. LineFits c.width x.line)) all fits
 
 opened_fits : {S : Type 0} (collapse above : Bool) (tag : S) (c : Cell S) → CellFits c
     → OpenFits (opened collapse above tag c)
@@ -329,38 +329,38 @@ holed : {S : Type 0} (total m at : ℕ) (tag : S) (height : ℕ) (c : OpenCell S
     → m ≤ at → at + c.width ≤ total → EndsBefore total m b
     → EndsBefore total (at + c.width)
     (if on then punched at (line_or c.width tag (spaces c.width tag) (drop height c.lines)) b else b)
-holed total m at tag height c b true fits behind within e =
+holed total m at tag height c b true fits trailing within e =
     let items = line_or c.width tag (spaces c.width tag) (drop height c.lines) in
     let n = hole_columns tag height c fits in
-    let before = order_wider 0 m at b.holes behind e.order in
+    let before = order_wider 0 m at b.holes trailing e.order in
     subst (EndsBefore total (at + c.width)) (sym (stands_at at items b before)) (record {
       width = length-punched at items b ∙ omega (arith, e.width, n, within);
       order = order_wider 0 (at + line_columns items) (at + c.width) (punched_at at items b).holes (omega (arith, n))
           (order_more 0 at items b.holes before);
     })
-holed total m at tag height c b false fits behind within e = record {
+holed total m at tag height c b false fits trailing within e = record {
   width = e.width;
-  order = order_wider 0 m (at + c.width) b.holes (omega (arith, behind)) e.order;
+  order = order_wider 0 m (at + c.width) b.holes (omega (arith, trailing)) e.order;
 }
 
 holes_fit : {S : Type 0} (total m at : ℕ) (tag : S) (height : ℕ) (cells : List (OpenCell S)) (b : Border S)
     → AllOpen cells → m ≤ at → m ≤ total → at + row_width cells ≤ total → EndsBefore total m b
     → HolesFit total (with_holes tag height at cells b)
-holes_fit total m at tag height [] b all behind ends within e = record {
+holes_fit total m at tag height [] b all trailing ends within e = record {
   width = e.width;
   sound = order_wider 0 m total b.holes ends e.order;
 }
-holes_fit total m at tag height (c ∷ []) b all behind ends within e =
-    let next = holed total m at tag height c b (goes_on c) all.0 behind within e in
+holes_fit total m at tag height (c ∷ []) b all trailing ends within e =
+    let next = holed total m at tag height c b (goes_on c) all.0 trailing within e in
     record {
       width = next.width;
       sound = order_wider 0 (at + c.width) total _ within next.order;
     }
-holes_fit total m at tag height (c ∷ d ∷ cells) b all behind ends within e =
+holes_fit total m at tag height (c ∷ d ∷ cells) b all trailing ends within e =
     holes_fit total (at + c.width) (at + c.width + 1) tag height (d ∷ cells)
     (if goes_on c then punched at (line_or c.width tag (spaces c.width tag) (drop height c.lines)) b else b) all.1
     (omega arith) (omega (arith, within)) (omega (arith, within))
-    (holed total m at tag height c b (goes_on c) all.0 behind (omega (arith, within)) e)
+    (holed total m at tag height c b (goes_on c) all.0 trailing (omega (arith, within)) e)
 
 -- ---- the cells of the row
 
@@ -375,21 +375,21 @@ all_cells : {S : Type 0} (cells : List (Cell S)) → All CellFits cells → AllC
 all_cells [] all = tt
 all_cells (c ∷ cells) all = (All-head CellFits c cells all, all_cells cells (All-tail CellFits c cells all))
 
-behind_cells : {S : Type 0} (at : ℕ) (hanging : List (Hanging S)) → All (λ h. CellFits h.cell) hanging
-    → AllCells (seated_behind at hanging)
-behind_cells at [] all = tt
-behind_cells at (h ∷ hanging) all = by_gap (nat_lt at h.place)
-    (behind_cells (max at h.place + h.cell.width + 1) hanging (All-tail (λ x. CellFits x.cell) h hanging all))
+after_cells : {S : Type 0} (at : ℕ) (hanging : List (Hanging S)) → All (λ h. CellFits h.cell) hanging
+    → AllCells (seated_after at hanging)
+after_cells at [] all = tt
+after_cells at (h ∷ hanging) all = by_gap (nat_lt at h.place)
+    (after_cells (max at h.place + h.cell.width + 1) hanging (All-tail (λ x. CellFits x.cell) h hanging all))
   where
-    by_gap : (gap : Bool) → AllCells (seated_behind (max at h.place + h.cell.width + 1) hanging)
+    by_gap : (gap : Bool) → AllCells (seated_after (max at h.place + h.cell.width + 1) hanging)
         → AllCells ((if gap then empty_cell (h.place - at - 1) ∷ h.cell ∷ [] else h.cell ∷ [])
-        ++ seated_behind (max at h.place + h.cell.width + 1) hanging)
+        ++ seated_after (max at h.place + h.cell.width + 1) hanging)
     by_gap true rest = (empty_fits (h.place - at - 1), (All-head (λ x. CellFits x.cell) h hanging all, rest))
     by_gap false rest = (All-head (λ x. CellFits x.cell) h hanging all, rest)
 
 seated_cells : {S : Type 0} (at : ℕ) (cells : List (Cell S)) (hanging : List (Hanging S)) → AllCells cells
     → All (λ h. CellFits h.cell) hanging → AllCells (seated at cells hanging)
-seated_cells at [] hanging all hangs = behind_cells at hanging hangs
+seated_cells at [] hanging all hangs = after_cells at hanging hangs
 seated_cells at (c ∷ cells) [] all hangs = all
 seated_cells at (c ∷ cells) (h ∷ hanging) all hangs = by_place (nat_le h.place at)
     (seated_cells (at + c.width + 1) cells hanging all.1 (All-tail (λ x. CellFits x.cell) h hanging hangs))

@@ -1,17 +1,17 @@
 -- The segments of borders that change, and the columns of what is shown.
-use Rattle.std.proofs.Common.{◌≡◌, ℕ, zero, suc, ◌+◌, ◌-◌, ◌<◌, ◌≤◌, Bool, true, false, List, [], ◌∷◌, ◌++◌, length}
-use Rattle.std.proofs.Common.{take, drop, map, replicate, if◌then◌else◌, sym, ap, ◌∙◌, refl, inl, inr, arith}
+use Rattle.std.proofs.Common.{◌≡◌, ◌+◌, ◌-◌, ◌<◌, ◌≤◌, [], ◌∷◌, ◌++◌, if◌then◌else◌, ◌∙◌, Bool, List, ap, arith, drop}
+use Rattle.std.proofs.Common.{false, inl, inr, length, map, refl, replicate, suc, sym, take, true, zero, ℕ}
 use Rattle.std.specs.Prelude.{◌==◌, ◌||◌, ◌&&◌, nat_le, fold, max, unwrap_or, Some, None}
 use Rattle.std.specs.Option.{option_map}
 use Rattle.std.proofs.lemmas.Bool.Decides.{nat_tests}
 use Rattle.std.proofs.lemmas.List.{length-append, length-replicate, length-take, length-drop}
 use Rattle.std.proofs.lemmas.List.Sums.{sum_by-cons}
-use Rattle.tagged_lines.specs.Columns.{width_of, columns_of-one, text_columns, IsOfOneColumn}
-use Rattle.tagged_lines.specs.Tagged.{Item, character, line_columns}
+use Rattle.text_lines.specs.Columns.{width_of, columns_of-one, text_columns, IsOfOneColumn}
+use Rattle.text_lines.specs.Tagged.{Item, character, line_columns}
 use Rattle.text_pieces.proofs.ItemColumns.{line_columns-append, line_columns-cons}
 use Rattle.text_borders.specs.Segments.{Segment, glyph, glyph_of, with_up, with_down, without_left, without_right}
-use Rattle.text_borders.specs.Borders.{Border, Hole, horizontal, stretched, change_at, change_to, chop_before}
-use Rattle.text_borders.specs.Borders.{columns_where, glyphs, shown_from, shown, punched_at, holes_end, punched}
+use Rattle.text_borders.specs.Borders.{Border, Hole, change_at, change_to, chop_before, columns_where, glyphs}
+use Rattle.text_borders.specs.Borders.{holes_end, horizontal, punched, punched_at, shown, shown_from, stretched}
 use Rattle.text_borders.specs.BorderLaws.{segment_at, asks_at, IsChangedWhereAsked, AreInOrder, IsSound}
 
 -- ---- one column
@@ -21,10 +21,10 @@ plain_at k zero = refl
 plain_at zero (suc m) = refl
 plain_at (suc k) (suc m) = plain_at k m
 
-behind_at : (k m : ℕ) (ss : List Segment) → segment_at k (ss ++ replicate m horizontal) ≡ segment_at k ss
-behind_at k m [] = plain_at k m
-behind_at zero m (s ∷ ss) = refl
-behind_at (suc k) m (s ∷ ss) = behind_at k m ss
+after_at : (k m : ℕ) (ss : List Segment) → segment_at k (ss ++ replicate m horizontal) ≡ segment_at k ss
+after_at k m [] = plain_at k m
+after_at zero m (s ∷ ss) = refl
+after_at (suc k) m (s ∷ ss) = after_at k m ss
 
 here : (f : Segment → Segment) (k : ℕ) (ss : List Segment) → k < length ss
     → segment_at k (change_at f k ss) ≡ f (segment_at k ss)
@@ -55,9 +55,9 @@ changed_to f ss j k true e =
     let is : j ≡ k = grind (arith, nat_tests) in
     ap (λ n. segment_at n (change_to f ss k)) is
     ∙ here f k (stretched (k + 1) ss) (omega (arith, length-stretched (k + 1) ss))
-    ∙ ap f (behind_at k (k + 1 - length ss) ss) ∙ ap (λ n. f (segment_at n ss)) (sym is)
+    ∙ ap f (after_at k (k + 1 - length ss) ss) ∙ ap (λ n. f (segment_at n ss)) (sym is)
 changed_to f ss j k false e =
-    elsewhere f j k (stretched (k + 1) ss) (λ is. grind (arith, nat_tests)) ∙ behind_at j (k + 1 - length ss) ss
+    elsewhere f j k (stretched (k + 1) ss) (λ is. grind (arith, nat_tests)) ∙ after_at j (k + 1 - length ss) ss
 
 -- ---- many columns
 
@@ -83,8 +83,8 @@ changed_among f once (k ∷ ks) ss j =
 is_same : (j k : ℕ) → j ≡ k → (j == k) ≡ true
 is_same j k e = grind (arith, nat_tests)
 
-is_behind : (j k : ℕ) → k ≤ j → nat_le k j ≡ true
-is_behind j k h = grind (arith, nat_tests)
+is_after : (j k : ℕ) → k ≤ j → nat_le k j ≡ true
+is_after j k h = grind (arith, nat_tests)
 
 is_before : (j k : ℕ) → j < k → nat_le k j ≡ false
 is_before j k h = grind (arith, nat_tests)
@@ -105,18 +105,18 @@ at_place asks s other place j e =
     ∙ ap (λ b. (asks s && true) || (b && asks (segment_at (j - (place + 1)) other)))
     (is_before j (place + 1) (omega (arith, e)))
     ∙ first_alone (asks s) (asks (segment_at (j - (place + 1)) other))
-    ∙ sym (ap (λ b. b && asks (segment_at (j - place) (s ∷ other))) (is_behind j place (omega (arith, e)))
+    ∙ sym (ap (λ b. b && asks (segment_at (j - place) (s ∷ other))) (is_after j place (omega (arith, e)))
     ∙ ap (λ n. asks (segment_at n (s ∷ other))) none)
 
-behind_place : (asks : Segment → Bool) (s : Segment) (other : List Segment) (place j : ℕ) → place < j
+after_place : (asks : Segment → Bool) (s : Segment) (other : List Segment) (place j : ℕ) → place < j
     → (j == place) ≡ false
     → ((asks s && (j == place)) || asks_at asks (place + 1) other j) ≡ asks_at asks place (s ∷ other) j
-behind_place asks s other place j h e =
+after_place asks s other place j h e =
     let one : j - place ≡ suc (j - (place + 1)) = omega (arith, h) in
     ap (λ b. (asks s && b) || asks_at asks (place + 1) other j) e
     ∙ none_here (asks s) (asks_at asks (place + 1) other j)
-    ∙ ap (λ b. b && asks (segment_at (j - (place + 1)) other)) (is_behind j (place + 1) (omega (arith, h)))
-    ∙ sym (ap (λ b. b && asks (segment_at (j - place) (s ∷ other))) (is_behind j place (omega (arith, h)))
+    ∙ ap (λ b. b && asks (segment_at (j - (place + 1)) other)) (is_after j (place + 1) (omega (arith, h)))
+    ∙ sym (ap (λ b. b && asks (segment_at (j - place) (s ∷ other))) (is_after j place (omega (arith, h)))
     ∙ ap (λ n. asks (segment_at n (s ∷ other))) one)
 
 before_place : (asks : Segment → Bool) (s : Segment) (other : List Segment) (place j : ℕ) → j < place
@@ -146,11 +146,11 @@ asked asks none (s ∷ other) place j =
     first true = refl
     first false = refl
 
-    by_place : (same behind : Bool) → (j == place) ≡ same → nat_le place j ≡ behind
+    by_place : (same trailing : Bool) → (j == place) ≡ same → nat_le place j ≡ trailing
         → ((asks s && (j == place)) || asks_at asks (place + 1) other j) ≡ asks_at asks place (s ∷ other) j
-    by_place true behind e l = at_place asks s other place j (grind (arith, nat_tests))
+    by_place true trailing e l = at_place asks s other place j (grind (arith, nat_tests))
     by_place false true e l =
-        behind_place asks s other place j (grind (arith, nat_tests)) e
+        after_place asks s other place j (grind (arith, nat_tests)) e
     by_place false false e l = before_place asks s other place j (grind (arith, nat_tests)) e
 
 pub changed_where_asked : (asks : Segment → Bool) (f : Segment → Segment) → asks horizontal ≡ false
@@ -299,16 +299,16 @@ shown_columns : {S : Type 0} (tag : S) (at end : ℕ) (ss : List Segment) (holes
     → AreInOrder at end holes → length ss ≡ end - at → line_columns (shown_from tag at ss holes) ≡ length ss
 shown_columns tag at end ss [] o n = glyphs_columns tag ss
 shown_columns tag at end ss (h ∷ holes) o n =
-    let behind = h.place + line_columns h.items in
-    let within = in_order_end behind end holes o.1 in
-    let rest = drop (behind - at) ss in
-    let left = length-drop (behind - at) ss in
-    let shown_rest = shown_columns tag behind end rest holes o.1 (omega (arith, left, n, o.0, within)) in
+    let trailing = h.place + line_columns h.items in
+    let within = in_order_end trailing end holes o.1 in
+    let rest = drop (trailing - at) ss in
+    let left = length-drop (trailing - at) ss in
+    let shown_rest = shown_columns tag trailing end rest holes o.1 (omega (arith, left, n, o.0, within)) in
     let front = take (h.place - at) ss in
     omega (
       arith,
-      line_columns-append (glyphs tag front) (h.items ++ shown_from tag behind rest holes),
-      line_columns-append h.items (shown_from tag behind rest holes),
+      line_columns-append (glyphs tag front) (h.items ++ shown_from tag trailing rest holes),
+      line_columns-append h.items (shown_from tag trailing rest holes),
       glyphs_columns tag front,
       length-take (h.place - at) ss,
       left,

@@ -2,7 +2,7 @@
 use Rattle.std.proofs.Common.{◌≡◌, ℕ, ◌+◌, ◌-◌, Bool, true, false, length, replicate, if◌then◌else◌, refl, arith}
 use Rattle.std.specs.Prelude.{nat_lt, max}
 use Rattle.std.proofs.lemmas.Bool.Decides.{nat_tests}
-use Rattle.tagged_lines.specs.Tagged.{character, line_columns}
+use Rattle.text_lines.specs.Tagged.{character, line_columns}
 use Rattle.text_borders.specs.Borders.{Border, stretched, with_segments, with_hole, filled_to}
 use Rattle.text_borders.specs.BorderLaws.{IsSound}
 use Rattle.text_borders.proofs.BorderLemmas.{length-stretched, order_wider, order_more}

@@ -1,9 +1,9 @@
 -- Lines whose characters get one tag.
 use Rattle.std.proofs.Common.{◌≡◌, ℕ, List, [], ◌∷◌, ◌++◌, refl, sym, ap, chars}
 use Rattle.std.proofs.lemmas.Str.{chars-nil}
-use Rattle.tagged_lines.specs.Tagged.{Item, character, marker, tagged, element_items, element_text}
-use Rattle.tagged_lines.specs.declared.tagged_string.TaggedLineElement.{TaggedLineElement}
-use Rattle.tagged_lines.specs.declared.tagged_string.TaggedLineElement.TheVariants.{Str, FragmentStart}
+use Rattle.text_lines.specs.Tagged.{Item, character, marker, tagged, element_items, element_text}
+use Rattle.text_lines.specs.declared.tagged_string.TaggedLineElement.{TaggedLineElement}
+use Rattle.text_lines.specs.declared.tagged_string.TaggedLineElement.TheVariants.{Str, FragmentStart}
 use Rattle.text_borders.specs.Across.{retagged}
 
 pub retagged-append : {S : Type 0} (tag : S) (xs ys : List (Item S)) → retagged tag (xs ++ ys)

@@ -1,24 +1,23 @@
 -- Tags have no say in borders and rows of cells: under other tags they are the same, with those tags.
-use Rattle.std.proofs.Common.{◌≡◌, ℕ, ◌+◌, ◌-◌, ◌/◌, Bool, true, false, List, [], ◌∷◌, ◌++◌, map, take, drop, length}
-use Rattle.std.proofs.Common.{replicate, sym, ap, ◌∙◌, refl}
+use Rattle.std.proofs.Common.{◌≡◌, ◌+◌, ◌-◌, ◌/◌, [], ◌∷◌, ◌++◌, ◌∙◌, Bool, List, ap, drop, false, length, map, refl}
+use Rattle.std.proofs.Common.{replicate, sym, take, true, ℕ}
 use Prim.Native.Nat.{zero, suc}
 use Rattle.std.specs.Prelude.{fold, if◌then◌else◌, ◌&&◌, max, nat_le, nat_lt, Option, None, Some}
 use Rattle.std.specs.Option.{option_map}
 use Rattle.std.proofs.lemmas.List.{map-append}
-use Rattle.tagged_lines.specs.Tagged.{Item, character, marker, tagged, line_columns}
+use Rattle.text_lines.specs.Tagged.{Item, character, marker, tagged, line_columns}
 use Rattle.text_pieces.proofs.RetaggedItems.{chosen_by, replicate_mapped, drop_mapped, line_columns_retagged}
 use Rattle.text_borders.specs.Segments.{Segment, with_down, with_up}
-use Rattle.text_borders.specs.Borders.{Hole, Border, horizontal, plain, stretched, change_to, with_segments, with_hole}
-use Rattle.text_borders.specs.Borders.{chopped_before, chopped_behind, punched_at, holes_end, punched, filled_to}
-use Rattle.text_borders.specs.Borders.{glyphs}
-use Rattle.text_borders.specs.Borders.{shown_from, shown, line_above}
+use Rattle.text_borders.specs.Borders.{Border, Hole, change_to, chopped_after, chopped_before, filled_to, glyphs}
+use Rattle.text_borders.specs.Borders.{holes_end, horizontal, line_above, plain, punched, punched_at, shown, shown_from}
+use Rattle.text_borders.specs.Borders.{stretched, with_hole, with_segments}
 use Rattle.text_borders.specs.Lines.{BlockLine, text, border, line_shown}
-use Rattle.text_borders.specs.Across.{CellLine, Cell, Hanging, OpenCell, Row, empty_cell, seated_behind, seated, spaces}
-use Rattle.text_borders.specs.Across.{whole, open_line, open_first, close_line, close_behind, close_last, opened}
-use Rattle.text_borders.specs.Across.{row_width, signs, of_cells, joined_to_row, border_below, retagged, as_text}
-use Rattle.text_borders.specs.Across.{widened, line_or, cell_items, row_items, cell_height, row_height, row_lines}
-use Rattle.text_borders.specs.Across.{goes_on, with_holes, further, hanging_of, sign_of, row_of, is_given, row_cells}
-use Rattle.text_borders.specs.Across.{across}
+use Rattle.text_borders.specs.Across.{Cell, CellLine, Hanging, OpenCell, Row, across, as_text, border_below}
+use Rattle.text_borders.specs.Across.{cell_height, cell_items, close_after, close_last, close_line, empty_cell, further}
+use Rattle.text_borders.specs.Across.{goes_on, hanging_of, is_given, joined_to_row, line_or, of_cells, open_first}
+use Rattle.text_borders.specs.Across.{open_line, opened, retagged, row_cells, row_height, row_items, row_lines, row_of}
+use Rattle.text_borders.specs.Across.{row_width, seated, seated_after, sign_of, signs, spaces, whole, widened}
+use Rattle.text_borders.specs.Across.{with_holes}
 use Rattle.text_borders.specs.Retagged.{reitem, rehole, reborder, reline, recell_line, recell, rehanging, reopen, rerow}
 
 -- ---- borders
@@ -42,10 +41,10 @@ punched_at_retagged : {A B : Type 0} (f : A → B) (place : ℕ) (items : List (
     → punched_at place (map (reitem f) items) (reborder f b) ≡ reborder f (punched_at place items b)
 punched_at_retagged f place items b =
     let end = place + line_columns items in
-    ap (λ n. with_hole place (map (reitem f) items) (chopped_behind (place + n) (chopped_before place
+    ap (λ n. with_hole place (map (reitem f) items) (chopped_after (place + n) (chopped_before place
     (with_segments (stretched (place + n) b.segments) (reborder f b))))) (line_columns_retagged f items)
     ∙ hole_retagged f place items
-    (chopped_behind end (chopped_before place (with_segments (stretched end b.segments) b)))
+    (chopped_after end (chopped_before place (with_segments (stretched end b.segments) b)))
 
 end_retagged : {A B : Type 0} (f : A → B) (holes : List (Hole A)) (at : ℕ) → holes_end at (map (rehole f) holes)
     ≡ holes_end at holes
@@ -121,22 +120,22 @@ widened_retagged f w tag (border b) =
 
 -- ---- cells that are seated and opened
 
-seated_behind_retagged : {A B : Type 0} (f : A → B) (hanging : List (Hanging A)) (at : ℕ)
-    → seated_behind at (map (rehanging f) hanging) ≡ map (recell f) (seated_behind at hanging)
-seated_behind_retagged f [] at = refl
-seated_behind_retagged f (h ∷ hanging) at =
+seated_after_retagged : {A B : Type 0} (f : A → B) (hanging : List (Hanging A)) (at : ℕ)
+    → seated_after at (map (rehanging f) hanging) ≡ map (recell f) (seated_after at hanging)
+seated_after_retagged f [] at = refl
+seated_after_retagged f (h ∷ hanging) at =
     let next = max at h.place + h.cell.width + 1 in
     let front = if nat_lt at h.place then empty_cell (h.place - at - 1) ∷ h.cell ∷ [] else h.cell ∷ [] in
-    ap (λ cells. cells ++ seated_behind next (map (rehanging f) hanging))
+    ap (λ cells. cells ++ seated_after next (map (rehanging f) hanging))
     (chosen_by (map (recell f)) (nat_lt at h.place) (nat_lt at h.place)
     (empty_cell (h.place - at - 1) ∷ h.cell ∷ []) (h.cell ∷ [])
     (empty_cell (h.place - at - 1) ∷ recell f h.cell ∷ []) (recell f h.cell ∷ []) refl refl refl)
-    ∙ ap (λ cells. map (recell f) front ++ cells) (seated_behind_retagged f hanging next)
-    ∙ sym (map-append (recell f) front (seated_behind next hanging))
+    ∙ ap (λ cells. map (recell f) front ++ cells) (seated_after_retagged f hanging next)
+    ∙ sym (map-append (recell f) front (seated_after next hanging))
 
 seated_retagged : {A B : Type 0} (f : A → B) (cells : List (Cell A)) (at : ℕ) (hanging : List (Hanging A))
     → seated at (map (recell f) cells) (map (rehanging f) hanging) ≡ map (recell f) (seated at cells hanging)
-seated_retagged f [] at hanging = seated_behind_retagged f hanging at
+seated_retagged f [] at hanging = seated_after_retagged f hanging at
 seated_retagged f (c ∷ cells) at [] = refl
 seated_retagged f (c ∷ cells) at (h ∷ hanging) =
     let next = at + c.width + 1 in
@@ -181,20 +180,20 @@ close_line_retagged f tag (border b) front c =
     (close_line tag (border b) front c).asks_below)
     (tagged_retagged f (map line_above (stretched c.width b.segments)) tag)
 
-close_behind_retagged : {A B : Type 0} (f : A → B) (tag : A) (rest front : List (CellLine A)) (l : CellLine A)
+close_after_retagged : {A B : Type 0} (f : A → B) (tag : A) (rest front : List (CellLine A)) (l : CellLine A)
     (c : OpenCell A)
-    → close_behind (f tag) (map (recell_line f) front) (recell_line f l) (map (recell_line f) rest) (reopen f c)
-    ≡ reopen f (close_behind tag front l rest c)
-close_behind_retagged f tag [] front l c = close_line_retagged f tag l.line front c
-close_behind_retagged f tag (m ∷ rest) front l c =
-    ap (λ ls. close_behind (f tag) ls (recell_line f m) (map (recell_line f) rest) (reopen f c))
+    → close_after (f tag) (map (recell_line f) front) (recell_line f l) (map (recell_line f) rest) (reopen f c)
+    ≡ reopen f (close_after tag front l rest c)
+close_after_retagged f tag [] front l c = close_line_retagged f tag l.line front c
+close_after_retagged f tag (m ∷ rest) front l c =
+    ap (λ ls. close_after (f tag) ls (recell_line f m) (map (recell_line f) rest) (reopen f c))
     (sym (map-append (recell_line f) front (l ∷ [])))
-    ∙ close_behind_retagged f tag rest (front ++ l ∷ []) m c
+    ∙ close_after_retagged f tag rest (front ++ l ∷ []) m c
 
 close_last_retagged : {A B : Type 0} (f : A → B) (tag : A) (lines : List (CellLine A)) (c : OpenCell A)
     → close_last (f tag) (map (recell_line f) lines) (reopen f c) ≡ reopen f (close_last tag lines c)
 close_last_retagged f tag [] c = refl
-close_last_retagged f tag (l ∷ rest) c = close_behind_retagged f tag rest [] l c
+close_last_retagged f tag (l ∷ rest) c = close_after_retagged f tag rest [] l c
 
 abbrev closed : {S : Type 0} → Bool → S → OpenCell S → OpenCell S
 closed collapse tag c = if collapse then close_last tag c.lines c else c

@@ -1,15 +1,15 @@
 -- Where the cells of a row stand.
-use Rattle.std.proofs.Common.{◌≡◌, ℕ, ◌+◌, ◌-◌, ◌<◌, Bool, true, false, List, [], ◌∷◌, ◌++◌}
-use Rattle.std.proofs.Common.{map, if◌then◌else◌, ap, ◌∙◌, refl, inl, inr, arith}
+use Rattle.std.proofs.Common.{◌≡◌, ◌+◌, ◌-◌, ◌<◌, [], ◌∷◌, ◌++◌, if◌then◌else◌, ◌∙◌, Bool, List, ap, arith, false, inl}
+use Rattle.std.proofs.Common.{inr, map, refl, true, ℕ}
 use Rattle.std.specs.Prelude.{nat_le, nat_lt, Option}
 use Rattle.std.proofs.lemmas.Bool.Decides.{nat_tests}
 use Rattle.std.proofs.lemmas.List.{map-append}
 use Rattle.text_borders.specs.Borders.{Border}
 use Rattle.text_borders.specs.Lines.{BlockLine, text, border}
-use Rattle.text_borders.specs.Across.{CellLine, Cell, Hanging, seated, OpenCell, whole, open_line, open_first}
-use Rattle.text_borders.specs.Across.{close_line, close_behind, close_last, opened, row_width, goes_on, hanging_of}
-use Rattle.text_borders.specs.Across.{further, row_height, is_given, row_cells, width_across, across}
-use Rattle.text_borders.specs.AcrossLaws.{cells_width, AreSeatedIn, seat_of, seats_behind}
+use Rattle.text_borders.specs.Across.{Cell, CellLine, Hanging, OpenCell, across, close_after, close_last, close_line}
+use Rattle.text_borders.specs.Across.{further, goes_on, hanging_of, is_given, open_first, open_line, opened, row_cells}
+use Rattle.text_borders.specs.Across.{row_height, row_width, seated, whole, width_across}
+use Rattle.text_borders.specs.AcrossLaws.{cells_width, AreSeatedIn, seat_of, seats_after}
 
 -- ---- a cell without its borders keeps its columns and its rows
 
@@ -30,14 +30,14 @@ close_keeps : {S : Type 0} (tag : S) (x : BlockLine S) (front : List (CellLine S
 close_keeps tag (text items) front c = (refl, refl)
 close_keeps tag (border b) front c = (refl, refl)
 
-behind_keeps : {S : Type 0} (tag : S) (front : List (CellLine S)) (l : CellLine S) (rest : List (CellLine S))
-    (c : OpenCell S) → Keeps c (close_behind tag front l rest c)
-behind_keeps tag front l [] c = close_keeps tag l.line front c
-behind_keeps tag front l (m ∷ rest) c = behind_keeps tag (front ++ l ∷ []) m rest c
+after_keeps : {S : Type 0} (tag : S) (front : List (CellLine S)) (l : CellLine S) (rest : List (CellLine S))
+    (c : OpenCell S) → Keeps c (close_after tag front l rest c)
+after_keeps tag front l [] c = close_keeps tag l.line front c
+after_keeps tag front l (m ∷ rest) c = after_keeps tag (front ++ l ∷ []) m rest c
 
 last_keeps : {S : Type 0} (tag : S) (lines : List (CellLine S)) (c : OpenCell S) → Keeps c (close_last tag lines c)
 last_keeps tag [] c = (refl, refl)
-last_keeps tag (l ∷ rest) c = behind_keeps tag [] l rest c
+last_keeps tag (l ∷ rest) c = after_keeps tag [] l rest c
 
 both_keep : {S : Type 0} (b c d : OpenCell S) → Keeps b c → Keeps c d → Keeps b d
 both_keep b c d first second = (second.0 ∙ first.0, second.1 ∙ first.1)
@@ -139,7 +139,7 @@ seat_here height at o c is = by_test (nat_lt 1 o.rows) (nat_lt 1 c.rows) (ap (na
     by_test false false e = refl
 
 seats_from : {S : Type 0} (collapse above : Bool) (tag : S) (height at : ℕ) (cells : List (Cell S))
-    → map (seat_of {S = S}) (hanging_of height at (map (opened collapse above tag) cells)) ≡ seats_behind at cells
+    → map (seat_of {S = S}) (hanging_of height at (map (opened collapse above tag) cells)) ≡ seats_after at cells
 seats_from collapse above tag height at [] = refl
 seats_from collapse above tag height at (c ∷ cells) =
     let is = opened_is collapse above tag c in
@@ -151,12 +151,12 @@ seats_from collapse above tag height at (c ∷ cells) =
     then (record { place = at; cell = further height (opened collapse above tag c) }) ∷ [] else []) ++ rest)
     (ap (λ w. map seat_of (hanging_of height (at + w + 1) (map (opened collapse above tag) cells))) is.0
     ∙ seats_from collapse above tag height (at + c.width + 1) cells)
-    ∙ ap (λ front. front ++ seats_behind (at + c.width + 1) cells)
+    ∙ ap (λ front. front ++ seats_after (at + c.width + 1) cells)
     (seat_here height at (opened collapse above tag c) c is)
 
 pub row_seats : {S : Type 0} (draws collapse : Bool) (tag : S) (above : Option (Border S)) (cells : List (Cell S))
     (hanging : List (Hanging S)) → map (seat_of {S = S}) (across draws collapse tag above cells hanging).hanging
-    ≡ seats_behind 0 (seated 0 cells hanging)
+    ≡ seats_after 0 (seated 0 cells hanging)
 row_seats draws collapse tag above cells hanging =
     seats_from collapse (is_given above) tag (row_height (row_cells collapse tag above cells hanging)) 0
     (seated 0 cells hanging)

@@ -1,6 +1,6 @@
 -- Segments of borders, one and many.
-use Rattle.std.proofs.Common.{◌≡◌, ℕ, zero, suc, ◌+◌, ◌-◌, ◌<◌, ◌≤◌, List, [], ◌∷◌, ◌++◌, map, length, take, drop}
-use Rattle.std.proofs.Common.{replicate, get_or, append_assoc, ap, sym, ◌∙◌, refl, arith}
+use Rattle.std.proofs.Common.{◌≡◌, ◌+◌, ◌-◌, ◌<◌, ◌≤◌, [], ◌∷◌, ◌++◌, ◌∙◌, List, ap, append_assoc, arith, drop, get_or}
+use Rattle.std.proofs.Common.{length, map, refl, replicate, suc, sym, take, zero, ℕ}
 use Rattle.std.specs.Prelude.{Bool, true, false, ◌==◌, fold, if◌then◌else◌}
 use Rattle.std.specs.Str.{chars}
 use Rattle.std.specs.Option.{option_map}
@@ -8,9 +8,9 @@ use Rattle.std.proofs.lemmas.Bool.Decides.{nat_tests}
 use Rattle.std.proofs.Math.ListN.{set}
 use Rattle.std.proofs.lemmas.List.{map-append, length-map, length-append, length-replicate}
 use Rattle.text_borders.specs.Segments.{Segment, glyph_of, segment_of, without_right}
-use Rattle.tagged_lines.specs.Tagged.{Item, line_columns}
-use Rattle.text_borders.specs.Borders.{Border, Hole, glyphs, shown_from, horizontal, stretched, change_at, change_to}
-use Rattle.text_borders.specs.Borders.{chop_before, with_segments, columns_where}
+use Rattle.text_lines.specs.Tagged.{Item, line_columns}
+use Rattle.text_borders.specs.Borders.{Border, Hole, change_at, change_to, chop_before, columns_where, glyphs}
+use Rattle.text_borders.specs.Borders.{horizontal, shown_from, stretched, with_segments}
 use Rattle.text_borders.specs.declared.segment.BorderSegHoriz.{BorderSegHoriz}
 use Rattle.text_borders.specs.declared.segment.BorderSegHoriz.TheVariants.{Horiz}
 
@@ -135,26 +135,26 @@ pub front_is : (n m : ℕ) (here rest : List BorderSegHoriz) → here ≡ take n
 front_is n m here rest is n_is =
     ap (map segment_of) is ∙ map_take segment_of n rest ∙ ap (λ k. take k (map segment_of rest)) n_is
 
-pub rest_is : (n m : ℕ) (behind rest : List BorderSegHoriz) → behind ≡ drop n rest → n ≡ m
-    → map segment_of behind ≡ drop m (map segment_of rest)
-rest_is n m behind rest is n_is =
+pub rest_is : (n m : ℕ) (trailing rest : List BorderSegHoriz) → trailing ≡ drop n rest → n ≡ m
+    → map segment_of trailing ≡ drop m (map segment_of rest)
+rest_is n m trailing rest is n_is =
     ap (map segment_of) is ∙ map_drop segment_of n rest ∙ ap (λ k. drop k (map segment_of rest)) n_is
 
 -- a hole and the segments before it were shown
-pub more_shown : {S : Type 0} (tag : S) (at end : ℕ) (rest here behind : List Segment) (h : Hole S)
+pub more_shown : {S : Type 0} (tag : S) (at end : ℕ) (rest here trailing : List Segment) (h : Hole S)
     (holes : List (Hole S))
     (old mid new : List (Item S)) → here ≡ take (h.place - at) rest → end ≡ h.place + line_columns h.items
-    → behind ≡ drop (h.place + line_columns h.items - at) rest → mid ≡ old ++ glyphs tag here → new ≡ mid ++ h.items
-    → new ++ shown_from tag end behind holes ≡ old ++ shown_from tag at rest (h ∷ holes)
-more_shown tag at end rest here behind h holes old mid new here_is end_is behind_is first second =
-    ap (λ l. l ++ shown_from tag end behind holes) second
-    ∙ append_assoc mid h.items (shown_from tag end behind holes)
-    ∙ ap (λ l. l ++ (h.items ++ shown_from tag end behind holes)) first
-    ∙ append_assoc old (glyphs tag here) (h.items ++ shown_from tag end behind holes)
-    ∙ ap (λ ss. old ++ (glyphs tag ss ++ (h.items ++ shown_from tag end behind holes))) here_is
-    ∙ ap (λ n. old ++ (glyphs tag (take (h.place - at) rest) ++ (h.items ++ shown_from tag n behind holes))) end_is
+    → trailing ≡ drop (h.place + line_columns h.items - at) rest → mid ≡ old ++ glyphs tag here → new ≡ mid ++ h.items
+    → new ++ shown_from tag end trailing holes ≡ old ++ shown_from tag at rest (h ∷ holes)
+more_shown tag at end rest here trailing h holes old mid new here_is end_is after_is first second =
+    ap (λ l. l ++ shown_from tag end trailing holes) second
+    ∙ append_assoc mid h.items (shown_from tag end trailing holes)
+    ∙ ap (λ l. l ++ (h.items ++ shown_from tag end trailing holes)) first
+    ∙ append_assoc old (glyphs tag here) (h.items ++ shown_from tag end trailing holes)
+    ∙ ap (λ ss. old ++ (glyphs tag ss ++ (h.items ++ shown_from tag end trailing holes))) here_is
+    ∙ ap (λ n. old ++ (glyphs tag (take (h.place - at) rest) ++ (h.items ++ shown_from tag n trailing holes))) end_is
     ∙ ap (λ ss. old ++ (glyphs tag (take (h.place - at) rest)
-    ++ (h.items ++ shown_from tag (h.place + line_columns h.items) ss holes))) behind_is
+    ++ (h.items ++ shown_from tag (h.place + line_columns h.items) ss holes))) after_is
 
 -- ---- eight segments of a horizontal line at once
 

@@ -1,12 +1,12 @@
 -- A row of cells beside one another: what it makes of the border above it, its lines, the border below it, and the
 -- cells that go on into the next row.
-use Rattle.std.specs.Prelude.{ℕ, zero, suc, ◌+◌, ◌-◌, ◌/◌, max, Bool, true, false, ◌&&◌, nat_le, nat_lt, List, []}
-use Rattle.std.specs.Prelude.{◌∷◌, ◌++◌, Option, None, Some, map, fold, length, drop, replicate, if◌then◌else◌}
+use Rattle.std.specs.Prelude.{◌+◌, ◌-◌, ◌/◌, ◌&&◌, [], ◌∷◌, ◌++◌, if◌then◌else◌, Bool, List, None, Option, Some, drop}
+use Rattle.std.specs.Prelude.{false, fold, length, map, max, nat_le, nat_lt, replicate, suc, true, zero, ℕ}
 use Rattle.std.specs.Option.{option_map}
-use Rattle.tagged_lines.specs.Tagged.{Item, character, marker, tagged, line_columns}
+use Rattle.text_lines.specs.Tagged.{Item, character, marker, tagged, line_columns}
 use Rattle.text_borders.specs.Segments.{with_up, with_down, joins_above, joins_below}
-use Rattle.text_borders.specs.Borders.{Border, horizontal, plain, stretched, change_to, columns_where, with_segments}
-use Rattle.text_borders.specs.Borders.{punched, shown, line_above}
+use Rattle.text_borders.specs.Borders.{Border, change_to, columns_where, horizontal, line_above, plain, punched, shown}
+use Rattle.text_borders.specs.Borders.{stretched, with_segments}
 use Rattle.text_borders.specs.Lines.{BlockLine, text, border}
 
 -- a line of a cell, and whether it has content
@@ -30,14 +30,14 @@ empty_cell width = record { width = width; rows = 1; lines = [] }
 
 -- A hanging cell stands in place of the first cell that begins at its place or after it; where none does, at the row's
 -- end, after an empty cell where a gap is left.
-abbrev pub seated_behind : {S : Type 0} → ℕ → List (Hanging S) → List (Cell S)
-seated_behind at [] = []
-seated_behind at (h ∷ hanging) =
+abbrev pub seated_after : {S : Type 0} → ℕ → List (Hanging S) → List (Cell S)
+seated_after at [] = []
+seated_after at (h ∷ hanging) =
     (if nat_lt at h.place then empty_cell (h.place - at - 1) ∷ h.cell ∷ [] else h.cell ∷ [])
-    ++ seated_behind (max at h.place + h.cell.width + 1) hanging
+    ++ seated_after (max at h.place + h.cell.width + 1) hanging
 
 abbrev pub seated : {S : Type 0} → ℕ → List (Cell S) → List (Hanging S) → List (Cell S)
-seated at [] hanging = seated_behind at hanging
+seated at [] hanging = seated_after at hanging
 seated at (c ∷ cells) [] = c ∷ cells
 seated at (c ∷ cells) (h ∷ hanging) =
     if nat_le h.place at then h.cell ∷ seated (at + c.width + 1) cells hanging
@@ -83,14 +83,14 @@ close_line tag (border b) front c = record c {
 }
 
 -- the lines are a front and a last one
-abbrev pub close_behind : {S : Type 0} → S → List (CellLine S) → CellLine S → List (CellLine S) → OpenCell S
+abbrev pub close_after : {S : Type 0} → S → List (CellLine S) → CellLine S → List (CellLine S) → OpenCell S
     → OpenCell S
-close_behind tag front l [] c = close_line tag l.line front c
-close_behind tag front l (m ∷ rest) c = close_behind tag (front ++ l ∷ []) m rest c
+close_after tag front l [] c = close_line tag l.line front c
+close_after tag front l (m ∷ rest) c = close_after tag (front ++ l ∷ []) m rest c
 
 abbrev pub close_last : {S : Type 0} → S → List (CellLine S) → OpenCell S → OpenCell S
 close_last tag [] c = c
-close_last tag (l ∷ rest) c = close_behind tag [] l rest c
+close_last tag (l ∷ rest) c = close_after tag [] l rest c
 
 -- Borders are taken out where cells collapse with their table, the first only where a border is above.
 abbrev pub opened : {S : Type 0} → Bool → Bool → S → Cell S → OpenCell S

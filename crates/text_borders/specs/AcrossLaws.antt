@@ -1,6 +1,6 @@
 -- Words of the laws on rows of cells.
 use Rattle.std.specs.Prelude.{◌≡◌, ◌⊎◌, ℕ, ◌+◌, ◌-◌, ◌<◌, ◌≤◌, nat_lt, All, List, [], ◌∷◌, ◌++◌, length, if◌then◌else◌}
-use Rattle.tagged_lines.specs.Tagged.{line_columns}
+use Rattle.text_lines.specs.Tagged.{line_columns}
 use Rattle.text_borders.specs.Lines.{BlockLine, text, border}
 use Rattle.text_borders.specs.BorderLaws.{IsSound}
 use Rattle.text_borders.specs.Across.{Cell, Hanging}
@@ -38,8 +38,8 @@ abbrev pub seat_of : {S : Type 0} → Hanging S → Seat
 seat_of h = record { place = h.place; width = h.cell.width; rows = h.cell.rows }
 
 -- of cells from a column on those that take more rows, with one row less
-abbrev pub seats_behind : {S : Type 0} → ℕ → List (Cell S) → List Seat
-seats_behind at [] = []
-seats_behind at (c ∷ cells) =
+abbrev pub seats_after : {S : Type 0} → ℕ → List (Cell S) → List Seat
+seats_after at [] = []
+seats_after at (c ∷ cells) =
     (if nat_lt 1 c.rows then (record { place = at; width = c.width; rows = c.rows - 1 }) ∷ [] else [])
-    ++ seats_behind (at + c.width + 1) cells
+    ++ seats_after (at + c.width + 1) cells

@@ -1,7 +1,7 @@
 -- Words of the laws on borders.
-use Rattle.std.specs.Prelude.{◌≡◌, ℕ, zero, suc, ◌+◌, ◌-◌, ◌≤◌, Bool, ◌&&◌, nat_le, List, [], ◌∷◌, length}
-use Rattle.std.specs.Prelude.{if◌then◌else◌}
-use Rattle.tagged_lines.specs.Tagged.{line_columns}
+use Rattle.std.specs.Prelude.{◌≡◌, ◌+◌, ◌-◌, ◌≤◌, ◌&&◌, [], ◌∷◌, if◌then◌else◌, Bool, List, length, nat_le, suc, zero}
+use Rattle.std.specs.Prelude.{ℕ}
+use Rattle.text_lines.specs.Tagged.{line_columns}
 use Rattle.text_borders.specs.Segments.{Segment}
 use Rattle.text_borders.specs.Borders.{Hole, Border, horizontal}
 

@@ -1,10 +1,10 @@
 -- Borders: lists of segments, with holes in which text stands.
-use Rattle.std.specs.Prelude.{ℕ, zero, suc, ◌+◌, ◌-◌, max, Bool, true, false, ◌==◌, nat_lt, List, [], ◌∷◌, ◌++◌, map}
-use Rattle.std.specs.Prelude.{fold, length, take, drop, replicate, if◌then◌else◌}
+use Rattle.std.specs.Prelude.{◌+◌, ◌-◌, ◌==◌, [], ◌∷◌, ◌++◌, if◌then◌else◌, Bool, List, drop, false, fold, length, map}
+use Rattle.std.specs.Prelude.{max, nat_lt, replicate, suc, take, true, zero, ℕ}
 use Rattle.std.specs.Option.{option_map}
-use Rattle.tagged_lines.specs.Tagged.{Item, character, tagged, line_items, line_columns}
-use Rattle.text_borders.specs.Segments.{Segment, arms, segment_of, glyph_of, with_up, with_down, without_left}
-use Rattle.text_borders.specs.Segments.{without_right, joins_above, joins_below, runs_above}
+use Rattle.text_lines.specs.Tagged.{Item, character, tagged, line_items, line_columns}
+use Rattle.text_borders.specs.Segments.{Segment, arms, glyph_of, joins_above, joins_below, runs_above, segment_of}
+use Rattle.text_borders.specs.Segments.{with_down, with_up, without_left, without_right}
 use Rattle.text_borders.specs.declared.border.BorderHoriz.{BorderHoriz}
 use Rattle.text_borders.specs.declared.border.Hole as code
 
@@ -86,8 +86,8 @@ chop_before k segments = if k == 0 then segments else change_at (option_map with
 abbrev pub chopped_before : {S : Type 0} → ℕ → Border S → Border S
 chopped_before k b = with_segments (chop_before k b.segments) b
 
-abbrev pub chopped_behind : {S : Type 0} → ℕ → Border S → Border S
-chopped_behind k b = with_segments (change_at (option_map without_left) k b.segments) b
+abbrev pub chopped_after : {S : Type 0} → ℕ → Border S → Border S
+chopped_after k b = with_segments (change_at (option_map without_left) k b.segments) b
 
 abbrev pub with_hole : {S : Type 0} → ℕ → List (Item S) → Border S → Border S
 with_hole place items b = record b { holes = b.holes ++ (record { place = place; items = items }) ∷ [] }
@@ -95,7 +95,7 @@ with_hole place items b = record b { holes = b.holes ++ (record { place = place;
 abbrev pub punched_at : {S : Type 0} → ℕ → List (Item S) → Border S → Border S
 punched_at place items b =
     let end = place + line_columns items in
-    with_hole place items (chopped_behind end (chopped_before place (with_segments (stretched end b.segments) b)))
+    with_hole place items (chopped_after end (chopped_before place (with_segments (stretched end b.segments) b)))
 
 -- the column after the last text, or after another
 abbrev pub holes_end : {S : Type 0} → ℕ → List (Hole S) → ℕ

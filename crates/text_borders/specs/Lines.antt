@@ -1,6 +1,6 @@
 -- Lines of blocks: text, or a border.
 use Rattle.std.specs.Prelude.{ℕ, List, length}
-use Rattle.tagged_lines.specs.Tagged.{Item, line_items, line_columns, IsJoined}
+use Rattle.text_lines.specs.Tagged.{Item, line_items, line_columns, IsJoined}
 use Rattle.text_borders.specs.Borders.{Border, border_of, shown}
 use Rattle.text_borders.specs.declared.render_line.RenderLine.{RenderLine}
 use Rattle.text_borders.specs.declared.render_line.RenderLine.TheVariants as code

@@ -1,6 +1,6 @@
 -- Words of the worked rows.
 use Rattle.std.specs.Prelude.{ℕ, true, false, List, [], ◌∷◌, ◌++◌, Option, None, Some, map, replicate}
-use Rattle.tagged_lines.specs.Tagged.{characters, tagged}
+use Rattle.text_lines.specs.Tagged.{characters, tagged}
 use Rattle.text_borders.specs.Borders.{Border, horizontal, plain, joined_above, joined_below, shown}
 use Rattle.text_borders.specs.Lines.{text, border}
 use Rattle.text_borders.specs.Across.{CellLine, Cell, Row, across}

@@ -1,9 +1,9 @@
 -- Segments of borders (the Unicode Standard's box drawing block names them by their arms).
 use Rattle.std.specs.Prelude.{ℕ, Bool, true, false, not, ◌&&◌, ◌||◌, Option, None, Some, if◌then◌else◌}
 use Rattle.text_borders.specs.declared.segment.BorderSegHoriz.{BorderSegHoriz}
-use Rattle.text_borders.specs.declared.segment.BorderSegHoriz.TheVariants.{Horiz, JoinAbove, JoinBelow, JoinCross, Vert}
-use Rattle.text_borders.specs.declared.segment.BorderSegHoriz.TheVariants.{HorizVert, JoinLeft, JoinRight, CornerTL}
-use Rattle.text_borders.specs.declared.segment.BorderSegHoriz.TheVariants.{CornerTR, CornerBL, CornerBR}
+use Rattle.text_borders.specs.declared.segment.BorderSegHoriz.TheVariants.{CornerBL, CornerBR, CornerTL, CornerTR}
+use Rattle.text_borders.specs.declared.segment.BorderSegHoriz.TheVariants.{Horiz, HorizVert, JoinAbove, JoinBelow}
+use Rattle.text_borders.specs.declared.segment.BorderSegHoriz.TheVariants.{JoinCross, JoinLeft, JoinRight, Vert}
 
 -- the arms that a segment has
 pub record Arms : Type 0 where

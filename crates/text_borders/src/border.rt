@@ -1,14 +1,14 @@
 //! Borders.
-ghost use Rattle.std.specs.Prelude.{◌≡◌, ◌+◌, ◌≤◌, [], ◌∷◌, ◌++◌, map, length, take, drop, replicate, OnOk, IfOk, IfSome};
-ghost use Rattle.std.specs.Prelude.{chars, string_bytes};
-ghost use Rattle.tagged_lines.specs.Tagged.{line_items, line_columns, tagged, IsJoined};
+ghost use Rattle.std.specs.Prelude.{◌≡◌, ◌+◌, ◌≤◌, [], ◌∷◌, ◌++◌, IfOk, IfSome, OnOk, chars, drop, length, map};
+ghost use Rattle.std.specs.Prelude.{replicate, string_bytes, take};
+ghost use Rattle.text_lines.specs.Tagged.{line_items, line_columns, tagged, IsJoined};
 ghost use Rattle.text_borders.specs.Segments.{glyph_of, segment_of};
 ghost use Rattle.text_borders.specs.Borders.{hole_of, shown_from, glyphs, line_above};
 ghost use Rattle.text_borders.specs.declared.segment.BorderSegHoriz.TheVariants as segments;
 
 use crate::segment::BorderSegHoriz;
 use std::alloc::{AllocError, Global};
-use tagged_lines::{EqualCopy, TaggedLine};
+use text_lines::{EqualCopy, TaggedLine};
 
 /// A horizontal line of segments, each one column, with joins to what stands above and below it, and texts that stand
 /// in holes of it.
@@ -29,8 +29,8 @@ pub(crate) struct Hole<T> {
 }
 
 impl<T: EqualCopy + Drop> BorderHoriz<T> {
-    ghost use Rattle.text_borders.specs.Borders.{border_of, has_holes, plain, stretched, with_segments, joined_above};
-    ghost use Rattle.text_borders.specs.Borders.{joined_below};
+    ghost use Rattle.text_borders.specs.Borders.{border_of, has_holes, joined_above, joined_below, plain, stretched};
+    ghost use Rattle.text_borders.specs.Borders.{with_segments};
 
     /// A border of `─` of so many columns. The error is allocation failure alone.
     pub fn new(alloc: Global, width: usize, tag: T) -> Result<BorderHoriz<T>, AllocError>
@@ -92,7 +92,7 @@ impl<T: EqualCopy + Drop> BorderHoriz<T> {
     pub fn join_above(&mut self, column: usize) -> Result<(), AllocError>
         ensures { OnOk result (border_of T.seen self.new ≡ joined_above column (border_of T.seen self.old)) }
     {
-        self.stretch_to(behind(column)?)?;
+        self.stretch_to(trailing(column)?)?;
         self.segments[column].join_above();
         Ok(())
     }
@@ -101,15 +101,15 @@ impl<T: EqualCopy + Drop> BorderHoriz<T> {
     pub fn join_below(&mut self, column: usize) -> Result<(), AllocError>
         ensures { OnOk result (border_of T.seen self.new ≡ joined_below column (border_of T.seen self.old)) }
     {
-        self.stretch_to(behind(column)?)?;
+        self.stretch_to(trailing(column)?)?;
         self.segments[column].join_below();
         Ok(())
     }
 }
 
 impl<T: EqualCopy + Drop> BorderHoriz<T> {
-    ghost use Rattle.text_borders.specs.Borders.{border_of, merged_above, merged_below, chopped_before, chopped_behind};
-    ghost use Rattle.text_borders.specs.Borders.{punched_at, holes_end, punched, filled_to};
+    ghost use Rattle.text_borders.specs.Borders.{border_of, chopped_after, chopped_before, filled_to, holes_end};
+    ghost use Rattle.text_borders.specs.Borders.{merged_above, merged_below, punched, punched_at};
 
     /// Takes in a border that stands below, from a column on: the border is joined to a line below where the other has
     /// `┴ ┬ ┼ └ ┘`. The error is allocation failure alone.
@@ -136,7 +136,7 @@ impl<T: EqualCopy + Drop> BorderHoriz<T> {
         let mut column = place;
         while let Some((segment, others)) = rest.split_first() {
             self.take_below(segment, column)?;
-            column = behind(column)?;
+            column = trailing(column)?;
             rest = others;
         }
         Ok(())
@@ -178,7 +178,7 @@ impl<T: EqualCopy + Drop> BorderHoriz<T> {
         let mut column = place;
         while let Some((segment, others)) = rest.split_first() {
             self.take_above(segment, column)?;
-            column = behind(column)?;
+            column = trailing(column)?;
             rest = others;
         }
         Ok(())
@@ -213,7 +213,7 @@ impl<T: EqualCopy + Drop> BorderHoriz<T> {
         let end = place.checked_add(line.width()).ok_or(AllocError)?;
         self.stretch_to(end)?;
         self.chop_before(place);
-        self.chop_behind(end);
+        self.chop_after(end);
         self.holes.push(Hole { place, line })?;
         Ok(())
     }
@@ -263,8 +263,8 @@ impl<T: EqualCopy + Drop> BorderHoriz<T> {
     }
 
     /// The segment at the column, where there is one, loses its left arm.
-    fn chop_behind(&mut self, column: usize)
-        ensures { border_of T.seen self.new ≡ chopped_behind column (border_of T.seen self.old) }
+    fn chop_after(&mut self, column: usize)
+        ensures { border_of T.seen self.new ≡ chopped_after column (border_of T.seen self.old) }
     {
         if column < self.segments.len() {
             self.segments[column].chop_left();
@@ -332,7 +332,7 @@ fn push_shown<T: EqualCopy + Drop>(
         push_glyphs(line, alloc, front, tag)?;
         line.push_line(&hole.line)?;
         let end = hole.end()?;
-        rest = behind_of(rest, end.saturating_sub(at));
+        rest = after_of(rest, end.saturating_sub(at));
         at = end;
         left = others;
     }
@@ -368,7 +368,7 @@ fn front_of(segments: &[BorderSegHoriz], count: usize) -> &[BorderSegHoriz]
 }
 
 /// The segments after the first so many.
-fn behind_of(segments: &[BorderSegHoriz], count: usize) -> &[BorderSegHoriz]
+fn after_of(segments: &[BorderSegHoriz], count: usize) -> &[BorderSegHoriz]
     ensures { result.now ≡ drop count segments.now }
 {
     segments.split_at(count.min(segments.len())).1
@@ -506,7 +506,7 @@ fn copies_of<T: EqualCopy + Drop>(
 }
 
 /// The next column. No memory holds a border of more than a `usize` counts.
-fn behind(column: usize) -> Result<usize, AllocError>
+fn trailing(column: usize) -> Result<usize, AllocError>
     ensures { IfOk result (λ n. n ≡ column + 1) }
 {
     column.checked_add(1).ok_or(AllocError)

@@ -1,17 +1,16 @@
 //! Laws of borders: each is the contract of a function that does nothing.
 ghost use Rattle.std.specs.Prelude.{◌≡◌, ℕ, ◌+◌, ◌≤◌, Bool, Option, Some, IfSome, List, All, length, map, max};
 ghost use Rattle.std.specs.Option.{option_map};
-ghost use Rattle.tagged_lines.specs.Tagged.{Item, line_columns};
+ghost use Rattle.text_lines.specs.Tagged.{Item, line_columns};
 ghost use Rattle.text_borders.specs.Segments.{Segment, with_up, with_down, joins_above, joins_below};
 ghost use Rattle.text_borders.specs.Borders.{Border, merged_above, merged_below, punched_at, punched, filled_to, shown};
 ghost use Rattle.text_borders.specs.BorderLaws.{IsChangedWhereAsked, AreInOrder, IsSound};
-ghost use Rattle.text_borders.specs.Across.{Cell, Hanging, seated, across, width_across};
-ghost use Rattle.text_borders.specs.AcrossLaws.{CellFits, cells_width, AreSeatedIn, seat_of, seats_behind};
-ghost use Rattle.text_borders.specs.Across.{as_text};
+ghost use Rattle.text_borders.specs.Across.{Cell, Hanging, across, as_text, seated, width_across};
+ghost use Rattle.text_borders.specs.AcrossLaws.{CellFits, cells_width, AreSeatedIn, seat_of, seats_after};
 ghost use Rattle.text_borders.specs.Lines.{BlockLine, line_shown};
 ghost use Rattle.text_borders.specs.Retagged.{reitem, reborder, reline, recell, rehanging, rerow};
 
-use tagged_lines::EqualCopy;
+use text_lines::EqualCopy;
 
 /// A border that takes in another from below has the segments that it had, joined to a line below exactly where the
 /// other has `┴ ┬ ┼ └ ┘`.
@@ -112,7 +111,7 @@ pub fn cells_keep_their_places<T: EqualCopy>()
     ensures seats { (draws collapse : Bool) (tag : T.Seen) (above : Option (Border T.Seen)) (cells : List (Cell T.Seen))
         (hanging : List (Hanging T.Seen)) →
         map (seat_of {S = T.Seen}) (across draws collapse tag above cells hanging).hanging
-        ≡ seats_behind 0 (seated 0 cells hanging) }
+        ≡ seats_after 0 (seated 0 cells hanging) }
 {}
 
 /// Tags have no say in borders and rows: under other tags they are the same, with those tags.

@@ -1,13 +1,13 @@
 //! Lines of blocks.
 ghost use Rattle.std.specs.Prelude.{◌≡◌, ◌-◌, ◌++◌, IfOk};
-ghost use Rattle.tagged_lines.specs.Tagged.{line_items, line_columns, IsJoined};
+ghost use Rattle.text_lines.specs.Tagged.{line_items, line_columns, IsJoined};
 ghost use Rattle.text_borders.specs.Borders.{border_of, shown};
 ghost use Rattle.text_borders.specs.Lines.{border};
 ghost use Rattle.text_borders.specs.Across.{spaces, widened, retagged, as_text};
 
 use crate::border::BorderHoriz;
 use std::alloc::{AllocError, Global};
-use tagged_lines::{EqualCopy, TaggedLine};
+use text_lines::{EqualCopy, TaggedLine};
 
 /// A line of a block.
 #[derive(Drop)]

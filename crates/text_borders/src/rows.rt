@@ -1,12 +1,12 @@
 //! Worked rows, computed from the definitions.
 ghost use Rattle.std.specs.Prelude.{◌≡◌, ◌∷◌, [], true, false, None, codes};
-ghost use Rattle.tagged_lines.specs.Tagged.{characters, tagged};
-ghost use Rattle.text_borders.specs.Borders.{horizontal, plain, joined_above, joined_below, merged_above, merged_below};
-ghost use Rattle.text_borders.specs.Borders.{punched, shown, lines_above};
+ghost use Rattle.text_lines.specs.Tagged.{characters, tagged};
+ghost use Rattle.text_borders.specs.Borders.{horizontal, joined_above, joined_below, lines_above, merged_above};
+ghost use Rattle.text_borders.specs.Borders.{merged_below, plain, punched, shown};
 ghost use Rattle.text_borders.specs.Across.{empty_cell, across};
 ghost use Rattle.text_borders.specs.RowWords.{row_shown, first_row, next_row, cell, tall_cell, blank_cell, table_cell};
 
-use tagged_lines::EqualCopy;
+use text_lines::EqualCopy;
 
 /// A border of a table of three columns of one column each, and the one between two of its rows.
 fn joins_are_shown<T: EqualCopy>()

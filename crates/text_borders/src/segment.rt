@@ -1,8 +1,8 @@
 //! Segments of borders.
 ghost use Rattle.std.specs.Prelude.{◌≡◌};
 ghost use Rattle.std.specs.Option.{option_map};
-ghost use Rattle.text_borders.specs.Segments.{segment_of, without_left, without_right, with_up, with_down, glyph_of};
-ghost use Rattle.text_borders.specs.Segments.{joins_below, joins_above, runs_above};
+ghost use Rattle.text_borders.specs.Segments.{glyph_of, joins_above, joins_below, runs_above, segment_of, with_down};
+ghost use Rattle.text_borders.specs.Segments.{with_up, without_left, without_right};
 
 /// A segment of a border, one column of it. But for the slash, it is a set of arms: up, down, left and right.
 #[derive(Clone, Copy, Debug, PartialEq, Eq)]

@@ -1,31 +1,25 @@
 -- A row of one cell.
-use Rattle.std.specs.Prelude.{◌≡◌, ℕ, zero, suc, ◌+◌, ◌≤◌, Bool, true, false, ◌&&◌, List, [], ◌∷◌, ◌++◌, map, All, fold}
-use Rattle.std.specs.Prelude.{length, drop, replicate, max, nat_le, Option, None, if◌then◌else◌, refl}
+use Rattle.std.specs.Prelude.{◌≡◌, ◌+◌, ◌≤◌, ◌&&◌, [], ◌∷◌, ◌++◌, if◌then◌else◌, ◌/◌, All, Bool, List, None, Option}
+use Rattle.std.specs.Prelude.{drop, false, fold, length, map, max, nat_le, refl, replicate, suc, true, zero, ℕ}
 use Rattle.std.specs.Option.{option_map}
 use Rattle.std.proofs.Common.{sym, ap, subst, ◌∙◌, arith}
 use Rattle.std.proofs.lemmas.Bool.Decides.{nat_tests}
-use Rattle.std.proofs.lemmas.List.{append-nil, append_assoc}
-use Rattle.tagged_lines.specs.Tagged.{Item}
+use Rattle.std.proofs.lemmas.List.{append-nil, append_assoc, drop-drop, length_push}
+use Rattle.text_lines.specs.Tagged.{Item, line_items}
 use Rattle.text_borders.specs.Segments.{with_up, with_down, joins_above, joins_below}
-use Rattle.text_borders.specs.Borders.{Border, horizontal, plain, stretched, change_to, with_segments}
-use Rattle.text_borders.specs.Lines.{BlockLine, text, border}
-use Rattle.text_borders.specs.Across.{CellLine, Hanging, OpenCell, whole, open_line, open_first, close_line}
-use Rattle.text_borders.specs.Across.{close_behind, close_last, opened, row_width, signs, of_cells, joined_to_row}
-use Rattle.text_borders.specs.Across.{border_below, sign_of, row_height, row_lines, with_holes}
-use Rattle.text_borders.specs.Across.{row_of, widened, line_or, goes_on}
-use Rattle.text_cells.specs.Ends.{border_line, last_border, first_border, rest_behind, without_first, without_last}
-use Rattle.text_borders.specs.Across.{spaces, further}
-use Rattle.text_borders.specs.Borders.{punched}
-use Rattle.text_borders.specs.Lines.{line_shown}
+use Rattle.text_borders.specs.Borders.{Border, change_to, horizontal, plain, punched, stretched, with_segments}
+use Rattle.text_borders.specs.Lines.{BlockLine, border, line_shown, text}
+use Rattle.text_borders.specs.Across.{CellLine, Hanging, OpenCell, border_below, close_after, close_last, close_line}
+use Rattle.text_borders.specs.Across.{further, goes_on, joined_to_row, line_or, of_cells, open_first, open_line, opened}
+use Rattle.text_borders.specs.Across.{row_height, row_lines, row_of, row_width, sign_of, signs, spaces, whole, widened}
+use Rattle.text_borders.specs.Across.{with_holes}
+use Rattle.text_cells.specs.Ends.{border_line, last_border, first_border, rest_after, without_first, without_last}
 use Rattle.text_pieces.specs.Items.{has_text}
-use Rattle.tagged_lines.specs.Tagged.{line_items}
 use Rattle.text_cells.specs.Texts.{laid_text_of, in_row}
 use Rattle.text_cells.specs.declared.laid_line.LaidText.{LaidText}
 use Rattle.text_cells.proofs.GoingLemmas.{ends_here}
 use Rattle.text_cells.specs.OpenCells.{asked, bare_cell}
-use Rattle.std.proofs.lemmas.List.{drop-drop, length_push}
 use Rattle.std.proofs.lemmas.List.Elements.{All-nil, All-cons}
-use Rattle.std.specs.Prelude.{◌/◌}
 
 -- ---- the last line
 
@@ -39,7 +33,7 @@ last_is front l = folded None front l
     folded above (m ∷ front) l = folded (border_line m.line) front l
 
 pub without_is : {S : Type 0} (front : List (CellLine S)) (l : CellLine S)
-    → without_last (front ++ l ∷ []) ≡ front ++ rest_behind l.line (l ∷ []) []
+    → without_last (front ++ l ∷ []) ≡ front ++ rest_after l.line (l ∷ []) []
 without_is [] l = refl
 without_is (m ∷ []) l = refl
 without_is (m ∷ n ∷ front) l = ap (λ ls. m ∷ ls) (without_is (n ∷ front) l)
@@ -49,7 +43,7 @@ without_none [] e = refl
 without_none (l ∷ []) e = by l.line e
   where
     by : {S : Type 0} {l : CellLine S} (line : BlockLine S) → border_line line ≡ None
-        → rest_behind line (l ∷ []) [] ≡ l ∷ []
+        → rest_after line (l ∷ []) [] ≡ l ∷ []
     by (text items) e = refl
     by (border b) e = cc
 without_none (l ∷ m ∷ rest) e = ap (λ ls. l ∷ ls) (without_none (m ∷ rest) e)
@@ -67,7 +61,7 @@ pub record IsOpened {S : Type 0} (c : OpenCell S) (width rows : ℕ) (lines : Li
 
 opened_line : {S : Type 0} (line : BlockLine S) (lines rest : List (CellLine S)) (tag : S) (width rows : ℕ)
     → IsOpened (open_line line rest (whole tag (record { width = width; rows = rows; lines = lines }))) width rows
-    (rest_behind line lines rest) (border_line line) None
+    (rest_after line lines rest) (border_line line) None
 opened_line (text items) lines rest tag width rows = record {
   width_is = refl;
   rows_is = refl;
@@ -111,7 +105,7 @@ opened_top false lines tag width rows = record {
 closed_line : {S : Type 0} (line : BlockLine S) (front lines : List (CellLine S)) (l : CellLine S) (tag : S)
     (c : OpenCell S) (width rows : ℕ) (top : Option (Border S)) → IsOpened c width rows lines top None
     → lines ≡ front ++ l ∷ []
-    → IsOpened (close_line tag line front c) width rows (front ++ rest_behind line (l ∷ []) []) top (border_line line)
+    → IsOpened (close_line tag line front c) width rows (front ++ rest_after line (l ∷ []) []) top (border_line line)
 closed_line (text items) front lines l tag c width rows top h e = record {
   width_is = h.width_is;
   rows_is = h.rows_is;
@@ -127,23 +121,23 @@ closed_line (border b) front lines l tag c width rows top h e = record {
   below = refl;
 }
 
-closed_behind : {S : Type 0} (front rest lines : List (CellLine S)) (l : CellLine S) (tag : S) (c : OpenCell S)
+closed_after : {S : Type 0} (front rest lines : List (CellLine S)) (l : CellLine S) (tag : S) (c : OpenCell S)
     (width rows : ℕ) (top : Option (Border S)) → IsOpened c width rows lines top None
     → lines ≡ front ++ l ∷ rest
-    → IsOpened (close_behind tag front l rest c) width rows (front ++ without_last (l ∷ rest)) top
+    → IsOpened (close_after tag front l rest c) width rows (front ++ without_last (l ∷ rest)) top
     (last_border (l ∷ rest))
-closed_behind front [] lines l tag c width rows top h e = closed_line l.line front lines l tag c width rows top h e
-closed_behind front (m ∷ rest) lines l tag c width rows top h e =
-    subst (λ ls. IsOpened (close_behind tag (front ++ l ∷ []) m rest c) width rows ls top (last_border (m ∷ rest)))
+closed_after front [] lines l tag c width rows top h e = closed_line l.line front lines l tag c width rows top h e
+closed_after front (m ∷ rest) lines l tag c width rows top h e =
+    subst (λ ls. IsOpened (close_after tag (front ++ l ∷ []) m rest c) width rows ls top (last_border (m ∷ rest)))
     (append_assoc front (l ∷ []) (without_last (m ∷ rest)))
-    (closed_behind (front ++ l ∷ []) rest lines m tag c width rows top h
+    (closed_after (front ++ l ∷ []) rest lines m tag c width rows top h
     (e ∙ sym (append_assoc front (l ∷ []) (m ∷ rest))))
 
 closed_last : {S : Type 0} (lines : List (CellLine S)) (tag : S) (c : OpenCell S) (width rows : ℕ)
     (top : Option (Border S)) → IsOpened c width rows lines top None
     → IsOpened (close_last tag lines c) width rows (without_last lines) top (last_border lines)
 closed_last [] tag c width rows top h = h
-closed_last (l ∷ rest) tag c width rows top h = closed_behind [] rest (l ∷ rest) l tag c width rows top h refl
+closed_last (l ∷ rest) tag c width rows top h = closed_after [] rest (l ∷ rest) l tag c width rows top h refl
 
 closed_bottom : {S : Type 0} (closes : Bool) (lines : List (CellLine S)) (tag : S) (c : OpenCell S) (width rows : ℕ)
     (top : Option (Border S)) → IsOpened c width rows lines top None

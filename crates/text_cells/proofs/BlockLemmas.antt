@@ -1,7 +1,7 @@
 -- Lines of a block: those by themselves, and wide texts among them.
-use Rattle.std.specs.Prelude.{◌≡◌, ℕ, suc, ◌+◌, ◌<◌, Bool, true, false, List, [], ◌∷◌, ◌++◌, map, All, fold, length}
-use Rattle.std.specs.Prelude.{Option, None, Some, IfSome, option_to_list, Result, Ok, Err, OnOk, is_ok, ◌==◌, not}
-use Rattle.std.specs.Prelude.{if◌then◌else◌, refl}
+use Rattle.std.specs.Prelude.{◌≡◌, ◌+◌, ◌<◌, [], ◌∷◌, ◌++◌, ◌==◌, if◌then◌else◌, All, Bool, Err, IfSome, List, None, Ok}
+use Rattle.std.specs.Prelude.{OnOk, Option, Result, Some, false, fold, is_ok, length, map, not, option_to_list, refl}
+use Rattle.std.specs.Prelude.{suc, true, ℕ}
 use Rattle.std.proofs.Common.{sym, ap, subst, ◌∙◌, arith}
 use Rattle.std.proofs.lemmas.Bool.Decides.{nat_tests}
 use Rattle.std.proofs.lemmas.List.{append-nil, append_assoc, map-append}
@@ -11,7 +11,7 @@ use Rattle.text_borders.specs.Lines.{BlockLine, text, border, IsJoinedText}
 use Rattle.text_borders.specs.Across.{CellLine}
 use Rattle.text_cells.specs.Texts.{laid_line_of, laid_text_of, content_count}
 use Rattle.text_pieces.specs.Sources.{is_filled}
-use Rattle.text_cells.specs.Ends.{border_line, last_border, first_border, rest_behind, without_first}
+use Rattle.text_cells.specs.Ends.{border_line, last_border, first_border, rest_after, without_first}
 use Rattle.text_cells.specs.Cells.{texts_of, part_lines, parts_lines, texts_content, parts_content, AreLinesJoined}
 use Rattle.text_cells.specs.declared.laid_line.LaidLine.{LaidLine}
 use Rattle.text_cells.specs.declared.laid_line.LaidText.{LaidText}
@@ -156,10 +156,10 @@ first_in seen [] [] ms some = (let no : ⊥ = omega (arith, some) in elim no [ ]
 first_in seen [] (t ∷ ts) ms some = refl
 first_in seen (l ∷ front) ts ms some = refl
 
-behind : {S : Type 0} (line : BlockLine S) (ls ms rest : List (CellLine S))
-    → rest_behind line (ls ++ rest) (ms ++ rest) ≡ rest_behind line ls ms ++ rest
-behind (text items) ls ms rest = refl
-behind (border b) ls ms rest = refl
+trailing : {S : Type 0} (line : BlockLine S) (ls ms rest : List (CellLine S))
+    → rest_after line (ls ++ rest) (ms ++ rest) ≡ rest_after line ls ms ++ rest
+trailing (text items) ls ms rest = refl
+trailing (border b) ls ms rest = refl
 
 without_in : {T S : Type 0} (seen : T → S) (front : List (CellLine S)) (ts : List (LaidText T)) (ms : List (CellLine S))
     → 0 < length ts → without_first ((front ++ map (laid_text_of seen) ts) ++ ms)
@@ -167,8 +167,8 @@ without_in : {T S : Type 0} (seen : T → S) (front : List (CellLine S)) (ts : L
 without_in seen [] [] ms some = (let no : ⊥ = omega (arith, some) in elim no [ ])
 without_in seen [] (t ∷ ts) ms some = refl
 without_in seen (l ∷ front) ts ms some =
-    behind l.line (l ∷ front ++ map (laid_text_of seen) ts) (front ++ map (laid_text_of seen) ts) ms
-    ∙ ap (λ ls. ls ++ ms) (behind l.line (l ∷ front) front (map (laid_text_of seen) ts))
+    trailing l.line (l ∷ front ++ map (laid_text_of seen) ts) (front ++ map (laid_text_of seen) ts) ms
+    ∙ ap (λ ls. ls ++ ms) (trailing l.line (l ∷ front) front (map (laid_text_of seen) ts))
 
 pub first_taken : {T S : Type 0} (seen : T → S) (parts rest : List (Part T)) (p : Part T) (lines : List (CellLine S))
     (top : Option (Border S)) → parts ≡ p ∷ rest → top ≡ first_border (map (laid_line_of seen) p.before.items)

@@ -1,9 +1,9 @@
 -- Cells that go on into the next row.
-use Rattle.std.proofs.Common.{◌≡◌, ℕ, ◌+◌, ◌-◌, ◌≤◌, ◌<◌, true, false, List, [], ◌∷◌, ◌++◌, map, drop, if◌then◌else◌}
-use Rattle.std.proofs.Common.{append-nil, ap, ◌∙◌, refl, sym, arith}
+use Rattle.std.proofs.Common.{◌≡◌, ◌+◌, ◌-◌, ◌≤◌, ◌<◌, [], ◌∷◌, ◌++◌, if◌then◌else◌, ◌∙◌, List, ap, append-nil, arith}
+use Rattle.std.proofs.Common.{drop, false, map, refl, sym, true, ℕ}
 use Rattle.std.proofs.lemmas.Bool.Decides.{nat_tests}
 use Rattle.std.proofs.lemmas.List.{drop-drop}
-use Rattle.tagged_lines.specs.Tagged.{Item}
+use Rattle.text_lines.specs.Tagged.{Item}
 use Rattle.text_borders.specs.Borders.{Border, punched}
 use Rattle.text_borders.specs.Across.{Hanging, OpenCell, spaces, line_or, goes_on, with_holes, further, hanging_of}
 use Rattle.text_cells.specs.OpenCells.{after, left_at, next_cell}

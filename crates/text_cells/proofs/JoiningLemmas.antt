@@ -1,6 +1,6 @@
 -- Borders that are joined to a row, and the columns of rows.
-use Rattle.std.proofs.Common.{◌≡◌, ℕ, ◌+◌, Bool, true, false, List, [], ◌∷◌, ◌++◌, map, length, if◌then◌else◌}
-use Rattle.std.proofs.Common.{◌<◌, append_assoc, ap, ◌∙◌, refl, subst, sym, arith}
+use Rattle.std.proofs.Common.{◌≡◌, ◌+◌, [], ◌∷◌, ◌++◌, if◌then◌else◌, ◌<◌, ◌∙◌, Bool, List, ap, append_assoc, arith}
+use Rattle.std.proofs.Common.{false, length, map, refl, subst, sym, true, ℕ}
 use Rattle.std.specs.Prelude.{IsSome, Option, None, Some, fold, unwrap_or}
 use Rattle.std.specs.Option.{option_to_list}
 use Rattle.std.proofs.lemmas.Bool.{false≢true}

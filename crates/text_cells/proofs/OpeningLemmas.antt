@@ -1,12 +1,12 @@
 -- Cells whose borders are taken out.
-use Rattle.std.proofs.Common.{◌≡◌, ℕ, zero, suc, ◌+◌, ◌-◌, Bool, true, false, List, [], ◌∷◌, ◌++◌, length, replicate}
-use Rattle.std.proofs.Common.{if◌then◌else◌, append-nil, append_assoc, ap, arith, map, ◌∙◌, refl, sym}
+use Rattle.std.proofs.Common.{◌≡◌, ◌+◌, ◌-◌, [], ◌∷◌, ◌++◌, if◌then◌else◌, ◌∙◌, Bool, List, ap, append-nil}
+use Rattle.std.proofs.Common.{append_assoc, arith, false, length, map, refl, replicate, suc, sym, true, zero, ℕ}
 use Rattle.std.proofs.lemmas.List.{map_push}
-use Rattle.tagged_lines.specs.Tagged.{Item}
+use Rattle.text_lines.specs.Tagged.{Item}
 use Rattle.text_borders.specs.Segments.{Segment, joins_above}
 use Rattle.text_borders.specs.Borders.{Border, horizontal, stretched, columns_where, with_segments, lines_above}
 use Rattle.text_borders.specs.Lines.{border}
-use Rattle.text_borders.specs.Across.{CellLine, OpenCell, close_line, close_behind, close_last}
+use Rattle.text_borders.specs.Across.{CellLine, OpenCell, close_line, close_after, close_last}
 use Rattle.text_cells.specs.OpenCells.{with_lines}
 
 -- ---- a border that is stretched asks for the same joins
@@ -44,17 +44,17 @@ closed_with tag c b new filler wide filled =
 
 -- ---- the last line
 
-closed_behind : {S : Type 0} (tag : S) (before front : List (CellLine S)) (x l : CellLine S) (c : OpenCell S)
-    → close_behind tag before x (front ++ l ∷ []) c ≡ close_line tag l.line (before ++ x ∷ front) c
-closed_behind tag before [] x l c = refl
-closed_behind tag before (y ∷ front) x l c =
-    closed_behind tag (before ++ x ∷ []) front y l c
+closed_after : {S : Type 0} (tag : S) (before front : List (CellLine S)) (x l : CellLine S) (c : OpenCell S)
+    → close_after tag before x (front ++ l ∷ []) c ≡ close_line tag l.line (before ++ x ∷ front) c
+closed_after tag before [] x l c = refl
+closed_after tag before (y ∷ front) x l c =
+    closed_after tag (before ++ x ∷ []) front y l c
     ∙ ap (λ ls. close_line tag l.line ls c) (append_assoc before (x ∷ []) (y ∷ front))
 
 closed_last : {S : Type 0} (tag : S) (front : List (CellLine S)) (l : CellLine S) (c : OpenCell S)
     → close_last tag (front ++ l ∷ []) c ≡ close_line tag l.line front c
 closed_last tag [] l c = refl
-closed_last tag (x ∷ front) l c = closed_behind tag [] front x l c
+closed_last tag (x ∷ front) l c = closed_after tag [] front x l c
 
 pub last_taken : {S : Type 0} (tag : S) (front : List (CellLine S)) (l : CellLine S) (c : OpenCell S)
     → c.lines ≡ front ++ l ∷ []

@@ -1,21 +1,21 @@
 -- The lines of a row, and the row.
-use Rattle.std.proofs.Common.{◌≡◌, ℕ, zero, suc, ◌+◌, ◌<◌, ◌≤◌, true, List, [], ◌∷◌, ◌++◌, map, take, drop, set, length}
-use Rattle.std.proofs.Common.{get_or, if◌then◌else◌, append_assoc, append-nil, ap, ◌∙◌, refl, sym, arith}
+use Rattle.std.proofs.Common.{◌≡◌, ◌+◌, ◌<◌, ◌≤◌, [], ◌∷◌, ◌++◌, if◌then◌else◌, ◌∙◌, List, ap, append-nil, append_assoc}
+use Rattle.std.proofs.Common.{arith, drop, get_or, length, map, refl, set, suc, sym, take, true, zero, ℕ}
 use Rattle.std.specs.Prelude.{nat_lt}
 use Rattle.std.proofs.lemmas.Bool.Decides.{nat_tests}
-use Rattle.std.proofs.lemmas.List.{drop-drop, drop_more, map_more, get_or_at, set_at, length-map, length-take-le}
-use Rattle.std.proofs.lemmas.List.{map-set, get_or-map}
-use Rattle.tagged_lines.specs.Tagged.{Item, character}
+use Rattle.std.proofs.lemmas.List.{drop-drop, drop_more, get_or-map, get_or_at, length-map, length-take-le, map-set}
+use Rattle.std.proofs.lemmas.List.{map_more, set_at}
+use Rattle.text_lines.specs.Tagged.{Item, character}
 use Rattle.text_borders.specs.Across.{OpenCell, cell_items, row_items, row_lines}
 use Rattle.text_cells.specs.OpenCells.{after, sign_before}
 
 -- ---- the text of a line
 
-sign_behind : {S : Type 0} (sign : ℕ) (tag : S) (c : OpenCell S) (cells : List (OpenCell S))
+sign_after : {S : Type 0} (sign : ℕ) (tag : S) (c : OpenCell S) (cells : List (OpenCell S))
     → (cell_items tag 0 c ++ sign_before sign tag (length cells)) ++ row_items sign tag 0 cells
     ≡ row_items sign tag 0 (c ∷ cells)
-sign_behind sign tag c [] = append-nil (cell_items tag 0 c ++ []) ∙ append-nil (cell_items tag 0 c)
-sign_behind sign tag c (d ∷ cells) =
+sign_after sign tag c [] = append-nil (cell_items tag 0 c ++ []) ∙ append-nil (cell_items tag 0 c)
+sign_after sign tag c (d ∷ cells) =
     let some : nat_lt 0 (length (d ∷ cells)) ≡ true = grind (arith, nat_tests) in
     ap (λ t. (cell_items tag 0 c ++ (if t then character sign tag ∷ [] else []))
     ++ row_items sign tag 0 (d ∷ cells)) some
@@ -33,7 +33,7 @@ more_text sign tag cells i left c items old mid new here left_is are first secon
     ∙ ap (λ l. ((old ++ l) ++ sign_before sign tag (length (drop (i + 1) cells))) ++ rest) are
     ∙ ap (λ l. l ++ rest) (append_assoc old (cell_items tag 0 c) (sign_before sign tag (length (drop (i + 1) cells))))
     ∙ append_assoc old (cell_items tag 0 c ++ sign_before sign tag (length (drop (i + 1) cells))) rest
-    ∙ ap (λ l. old ++ l) (sign_behind sign tag c (drop (i + 1) cells))
+    ∙ ap (λ l. old ++ l) (sign_after sign tag c (drop (i + 1) cells))
     ∙ ap (λ cs. old ++ row_items sign tag 0 cs) (sym here)
 
 -- ---- the cells, from each of which a line was taken
@@ -129,11 +129,11 @@ lines_more sign tag cells now i lines l so_far taken is =
 
 -- ---- the end of the cells
 
-none_behind : {X : Type 0} (xs : List X) (i : ℕ) → length xs ≤ i → drop i xs ≡ []
-none_behind [] zero h = refl
-none_behind [] (suc i) h = refl
-none_behind (x ∷ xs) zero h = absurd (omega (arith, h))
-none_behind (x ∷ xs) (suc i) h = none_behind xs i (omega (arith, h))
+none_after : {X : Type 0} (xs : List X) (i : ℕ) → length xs ≤ i → drop i xs ≡ []
+none_after [] zero h = refl
+none_after [] (suc i) h = refl
+none_after (x ∷ xs) zero h = absurd (omega (arith, h))
+none_after (x ∷ xs) (suc i) h = none_after xs i (omega (arith, h))
 
 all_before : {X : Type 0} (xs : List X) (i : ℕ) → length xs ≤ i → take i xs ≡ xs
 all_before [] zero h = refl
@@ -145,10 +145,10 @@ pub items_all : {S : Type 0} (sign : ℕ) (tag : S) (cells : List (OpenCell S)) 
     → length cells ≤ i → line ++ row_items sign tag 0 (drop i cells) ≡ row_items sign tag 0 cells
     → line ≡ row_items sign tag 0 cells
 items_all sign tag cells i line h so_far =
-    sym (append-nil line) ∙ sym (ap (λ cs. line ++ row_items sign tag 0 cs) (none_behind cells i h)) ∙ so_far
+    sym (append-nil line) ∙ sym (ap (λ cs. line ++ row_items sign tag 0 cs) (none_after cells i h)) ∙ so_far
 
 pub cells_all : {S : Type 0} (cells now : List (OpenCell S)) (i : ℕ) → length cells ≤ i
     → now ≡ map (after 1) (take i cells) ++ drop i cells → now ≡ map (after 1) cells
 cells_all cells now i h so_far =
-    so_far ∙ ap (λ cs. map (after 1) (take i cells) ++ cs) (none_behind cells i h)
+    so_far ∙ ap (λ cs. map (after 1) (take i cells) ++ cs) (none_after cells i h)
     ∙ append-nil (map (after 1) (take i cells)) ∙ ap (map (after 1)) (all_before cells i h)

@@ -1,8 +1,8 @@
 -- Cells and hanging cells in one row.
-use Rattle.std.proofs.Common.{◌≡◌, ℕ, ◌+◌, ◌-◌, Bool, true, false, List, [], ◌∷◌, ◌++◌, if◌then◌else◌, append_assoc, ap}
-use Rattle.std.proofs.Common.{◌∙◌, refl, sym}
+use Rattle.std.proofs.Common.{◌≡◌, ◌+◌, ◌-◌, [], ◌∷◌, ◌++◌, if◌then◌else◌, ◌∙◌, Bool, List, ap, append_assoc, false}
+use Rattle.std.proofs.Common.{refl, sym, true, ℕ}
 use Rattle.std.specs.Prelude.{max, nat_lt}
-use Rattle.text_borders.specs.Across.{Cell, Hanging, empty_cell, seated, seated_behind}
+use Rattle.text_borders.specs.Across.{Cell, Hanging, empty_cell, seated, seated_after}
 use Rattle.text_cells.specs.OpenCells.{hangs_at, gap}
 
 seated_alone : {S : Type 0} (at : ℕ) (cells : List (Cell S)) → seated at cells [] ≡ cells
@@ -38,13 +38,13 @@ gap_before at place c more true = refl
 gap_before at place c more false = refl
 
 -- a hanging cell after the row
-pub more_behind : {S : Type 0} (at next : ℕ) (h : Hanging S) (hanging : List (Hanging S)) (old mid new : List (Cell S))
+pub more_after : {S : Type 0} (at next : ℕ) (h : Hanging S) (hanging : List (Hanging S)) (old mid new : List (Cell S))
     → next ≡ max at h.place + h.cell.width + 1 → mid ≡ old ++ gap at h.place → new ≡ mid ++ h.cell ∷ []
-    → new ++ seated_behind next hanging ≡ old ++ seated_behind at (h ∷ hanging)
-more_behind at next h hanging old mid new next_is filled pushed =
-    let rest = seated_behind next hanging in
+    → new ++ seated_after next hanging ≡ old ++ seated_after at (h ∷ hanging)
+more_after at next h hanging old mid new next_is filled pushed =
+    let rest = seated_after next hanging in
     ap (λ l. l ++ rest) pushed ∙ append_assoc mid (h.cell ∷ []) rest
     ∙ ap (λ l. l ++ h.cell ∷ rest) filled ∙ append_assoc old (gap at h.place) (h.cell ∷ rest)
     ∙ ap (λ l. old ++ l) (gap_before at h.place h.cell rest (nat_lt at h.place))
     ∙ ap (λ n. old ++ ((if nat_lt at h.place then empty_cell (h.place - at - 1) ∷ h.cell ∷ [] else h.cell ∷ [])
-    ++ seated_behind n hanging)) next_is
+    ++ seated_after n hanging)) next_is

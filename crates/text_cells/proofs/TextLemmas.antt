@@ -1,14 +1,14 @@
 -- Wide texts.
-use Rattle.std.specs.Prelude.{◌≡◌, ℕ, suc, ◌+◌, ◌-◌, ◌≤◌, ◌<◌, Bool, true, false, List, [], ◌∷◌, ◌++◌, map, min}
-use Rattle.std.specs.Prelude.{length, ◌==◌, IsTrue, if◌then◌else◌, refl}
+use Rattle.std.specs.Prelude.{◌≡◌, ◌+◌, ◌-◌, ◌≤◌, ◌<◌, [], ◌∷◌, ◌++◌, ◌==◌, if◌then◌else◌, Bool, IsTrue, List, false}
+use Rattle.std.specs.Prelude.{length, map, min, refl, suc, true, ℕ}
 use Rattle.std.proofs.Common.{sym, ap, subst, ◌∙◌, arith}
 use Rattle.std.proofs.lemmas.Bool.Decides.{nat_tests}
 use Rattle.std.proofs.lemmas.List.{append-nil}
 use Rattle.std.proofs.lemmas.List.Elements.{All-push, All-append, All-weaker, All-tail, All-head}
-use Rattle.tagged_lines.specs.Columns.{text_columns}
-use Rattle.tagged_lines.specs.Tagged.{Item, character, marker, line_columns, line_items, line_text}
-use Rattle.tagged_lines.specs.declared.tagged_line.TaggedLine.{TaggedLine}
-use Rattle.tagged_lines.proofs.Joins.{elements_characters}
+use Rattle.text_lines.specs.Columns.{text_columns}
+use Rattle.text_lines.specs.Tagged.{Item, character, marker, line_columns, line_items, line_text}
+use Rattle.text_lines.specs.declared.tagged_line.TaggedLine.{TaggedLine}
+use Rattle.text_lines.proofs.Joins.{elements_characters}
 use Rattle.text_borders.specs.Lines.{text}
 use Rattle.text_borders.specs.Across.{spaces}
 use Rattle.text_pieces.specs.Items.{has_text}

@@ -3,12 +3,12 @@ use Rattle.std.proofs.Common.{◌≡◌, ℕ, Bool, List, ◌++◌, map, length,
 use Rattle.std.specs.Prelude.{Option, None, Some, fold, is_some}
 use Rattle.std.specs.Option.{option_map}
 use Rattle.std.proofs.lemmas.List.{take_at}
-use Rattle.tagged_lines.specs.Tagged.{Item}
+use Rattle.text_lines.specs.Tagged.{Item}
 use Rattle.text_borders.specs.Segments.{with_up, with_down}
 use Rattle.text_borders.specs.Borders.{Border, horizontal, plain, stretched, change_to, with_segments}
-use Rattle.text_borders.specs.Across.{Cell, Hanging, OpenCell, opened, row_width, signs, of_cells}
-use Rattle.text_borders.specs.Across.{joined_to_row, border_below, sign_of, row_height, row_lines, with_holes}
-use Rattle.text_borders.specs.Across.{hanging_of, row_of, is_given}
+use Rattle.text_borders.specs.Across.{Cell, Hanging, OpenCell, border_below, hanging_of, is_given, joined_to_row}
+use Rattle.text_borders.specs.Across.{of_cells, opened, row_height, row_lines, row_of, row_width, sign_of, signs}
+use Rattle.text_borders.specs.Across.{with_holes}
 use Rattle.text_cells.specs.OpenCells.{after, seated_across}
 use Rattle.text_cells.proofs.GoingLemmas.{holes_after, hanging_after}
 

@@ -1,7 +1,7 @@
 -- What contracts see of lines, cells and rows.
 use Rattle.std.specs.Prelude.{◌≡◌, ℕ, ◌+◌, List, [], ◌∷◌, ◌++◌, map, All}
 use Rattle.std.specs.Option.{option_map}
-use Rattle.tagged_lines.specs.Tagged.{Item, line_items, IsJoined}
+use Rattle.text_lines.specs.Tagged.{Item, line_items, IsJoined}
 use Rattle.text_borders.specs.Borders.{border_of}
 use Rattle.text_borders.specs.Lines.{IsJoinedText}
 use Rattle.text_borders.specs.Across.{CellLine, Cell, Hanging, Row as SeenRow}

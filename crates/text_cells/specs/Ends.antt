@@ -17,16 +17,16 @@ first_border [] = None
 first_border (l ∷ rest) = border_line l.line
 
 -- the lines without the first, where it is a border
-abbrev pub rest_behind : {S : Type 0} → BlockLine S → List (CellLine S) → List (CellLine S) → List (CellLine S)
-rest_behind (text items) lines rest = lines
-rest_behind (border b) lines rest = rest
+abbrev pub rest_after : {S : Type 0} → BlockLine S → List (CellLine S) → List (CellLine S) → List (CellLine S)
+rest_after (text items) lines rest = lines
+rest_after (border b) lines rest = rest
 
 abbrev pub without_first : {S : Type 0} → List (CellLine S) → List (CellLine S)
 without_first [] = []
-without_first (l ∷ rest) = rest_behind l.line (l ∷ rest) rest
+without_first (l ∷ rest) = rest_after l.line (l ∷ rest) rest
 
 -- the lines without the last, where it is a border
 abbrev pub without_last : {S : Type 0} → List (CellLine S) → List (CellLine S)
 without_last [] = []
-without_last (l ∷ []) = rest_behind l.line (l ∷ []) []
+without_last (l ∷ []) = rest_after l.line (l ∷ []) []
 without_last (l ∷ m ∷ rest) = l ∷ without_last (m ∷ rest)

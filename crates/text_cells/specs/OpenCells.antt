@@ -1,14 +1,14 @@
 -- What private contracts see of open cells, and words between the code's steps and those of the definition.
-use Rattle.std.specs.Prelude.{◌≡◌, ◌≤◌, All, length, ℕ, ◌+◌, ◌-◌, Bool, false, nat_le, nat_lt, List, [], ◌∷◌, Option, None, Some, map, drop}
-use Rattle.std.specs.Prelude.{if◌then◌else◌}
+use Rattle.std.specs.Prelude.{◌≡◌, ◌≤◌, ◌+◌, ◌-◌, [], ◌∷◌, if◌then◌else◌, All, Bool, List, None, Option, Some, drop}
+use Rattle.std.specs.Prelude.{false, length, map, nat_le, nat_lt, ℕ}
 use Rattle.std.specs.Option.{option_map}
-use Rattle.tagged_lines.specs.Tagged.{Item, character, line_items}
+use Rattle.text_lines.specs.Tagged.{Item, character, line_items}
 use Rattle.text_borders.specs.Segments.{Segment, joins_above, joins_below}
 use Rattle.text_borders.specs.Borders.{Border, border_of, columns_where}
-use Rattle.text_borders.specs.Across.{spaces, CellLine, Cell, Hanging, empty_cell, OpenCell as SeenCell, goes_on}
-use Rattle.text_borders.specs.Across.{further, opened, row_of, is_given, Row}
+use Rattle.text_borders.specs.Across.{Cell, CellLine, Hanging, OpenCell as SeenCell, Row, empty_cell, further, goes_on}
+use Rattle.text_borders.specs.Across.{is_given, opened, row_of, spaces}
 use Rattle.text_cells.specs.Texts.{laid_line_of}
-use Rattle.tagged_lines.specs.declared.tagged_line.TaggedLine.{TaggedLine}
+use Rattle.text_lines.specs.declared.tagged_line.TaggedLine.{TaggedLine}
 use Rattle.text_cells.specs.declared.opening.OpenCell.{OpenCell}
 
 -- the columns at which a border that was taken out asks for a join

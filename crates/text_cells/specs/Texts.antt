@@ -1,7 +1,7 @@
 -- Texts of a block, and lines with content.
 use Rattle.std.specs.Prelude.{ℕ, ◌+◌, ◌≤◌, List, [], ◌∷◌, All, if◌then◌else◌}
-use Rattle.tagged_lines.specs.Columns.{text_columns}
-use Rattle.tagged_lines.specs.Tagged.{line_items, line_text}
+use Rattle.text_lines.specs.Columns.{text_columns}
+use Rattle.text_lines.specs.Tagged.{line_items, line_text}
 use Rattle.text_borders.specs.Lines.{BlockLine, text, render_line_of}
 use Rattle.text_borders.specs.Across.{CellLine, widened}
 use Rattle.text_pieces.specs.Items.{has_text}

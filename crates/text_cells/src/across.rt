@@ -15,8 +15,8 @@ use crate::opening::opened_cells;
 use crate::row_lines::{row_height, row_lines, sign_of};
 use crate::seating::seated;
 use std::alloc::{AllocError, Global};
-use tagged_lines::EqualCopy;
 use text_borders::BorderHoriz;
+use text_lines::EqualCopy;
 
 /// A row of cells beside one another, with the cells that go on from the row before among them: below a border, which
 /// is joined to it, or below none. `draws` tells whether `│` or a space stands between cells, `collapse` whether

@@ -4,7 +4,7 @@ ghost use Rattle.std.specs.Option.{option_map};
 ghost use Rattle.text_borders.specs.Borders.{border_of};
 ghost use Rattle.text_borders.specs.Lines.{render_line_of};
 ghost use Rattle.text_cells.specs.Texts.{laid_line_of};
-ghost use Rattle.text_cells.specs.Ends.{border_line, first_border, last_border, rest_behind, without_first};
+ghost use Rattle.text_cells.specs.Ends.{border_line, first_border, last_border, rest_after, without_first};
 ghost use Rattle.text_cells.specs.Ends.{without_last};
 ghost use Rattle.text_cells.specs.Cells.{block_lines_of, cell_of, row_of, AreRowLines};
 ghost use Rattle.text_cells.specs.OpenCells.{open_cell_of, seated_across, bare_cell, IsAlone};
@@ -17,8 +17,8 @@ use crate::laid_line::LaidLine;
 use crate::line_vec::LineVec;
 use crate::opening::OpenCell;
 use std::alloc::{AllocError, Global};
-use tagged_lines::EqualCopy;
 use text_borders::{BorderHoriz, RenderLine};
+use text_lines::EqualCopy;
 
 /// Whether there is one cell, which goes on into no other row and has many lines.
 pub(crate) fn is_alone<T: EqualCopy + Drop>(cells: &[LineSet<T>]) -> bool
@@ -123,7 +123,7 @@ fn border_or_back<T: EqualCopy + Drop>(
     ensures bottom { IfOk result (λ bottom. option_map (border_of T.seen) bottom
         ≡ border_line (render_line_of T.seen last.line)) }
     ensures rest { OnOk result (block_lines_of T.seen lines.new ≡ block_lines_of T.seen lines.old
-        ++ rest_behind (render_line_of T.seen last.line) (laid_line_of T.seen last ∷ []) []) }
+        ++ rest_after (render_line_of T.seen last.line) (laid_line_of T.seen last ∷ []) []) }
 {
     let LaidLine { line, content } = last;
     match line {

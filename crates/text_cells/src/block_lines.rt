@@ -1,7 +1,7 @@
 //! The lines of a block or of a cell.
 ghost use Rattle.std.specs.Prelude.{◌≡◌, ◌<◌, [], ◌∷◌, ◌++◌, length, map, IfOk, OnOk};
 ghost use Rattle.std.specs.Option.{option_map};
-ghost use Rattle.tagged_lines.specs.Tagged.{line_items, IsJoined};
+ghost use Rattle.text_lines.specs.Tagged.{line_items, IsJoined};
 ghost use Rattle.text_borders.specs.Borders.{border_of};
 ghost use Rattle.text_borders.specs.Lines.{render_line_of, IsJoinedText};
 ghost use Rattle.text_cells.specs.Texts.{laid_line_of, laid_text_of, row_text, in_row};
@@ -16,8 +16,8 @@ use crate::wide_texts::WideTexts;
 use std::alloc::{AllocError, Global};
 use std::collections::VecDeque;
 use std::mem;
-use tagged_lines::{EqualCopy, TaggedLine};
 use text_borders::{BorderHoriz, RenderLine};
+use text_lines::{EqualCopy, TaggedLine};
 use text_pieces::has_text;
 
 /// The lines of a block or of a cell, in order.
@@ -39,8 +39,8 @@ impl<T: EqualCopy + Drop> BlockLines<T> {
     ghost use Rattle.text_cells.specs.Texts.{content_count};
     ghost use Rattle.text_pieces.specs.Sources.{is_filled};
     ghost use Rattle.text_cells.specs.Ends.{last_border};
-    ghost use Rattle.text_cells.specs.Cells.{block_lines_of, block_content, texts_content, parts_lines};
-    ghost use Rattle.text_cells.specs.Cells.{AreBlockLinesJoined};
+    ghost use Rattle.text_cells.specs.Cells.{AreBlockLinesJoined, block_content, block_lines_of, parts_lines};
+    ghost use Rattle.text_cells.specs.Cells.{texts_content};
 
     /// No lines.
     pub fn new(alloc: Global) -> BlockLines<T>

@@ -2,8 +2,8 @@
 
 use crate::block_lines::BlockLines;
 use crate::wide_texts::WideTexts;
-use tagged_lines::TaggedLine;
 use text_borders::BorderHoriz;
+use text_lines::TaggedLine;
 
 /// The lines of a cell.
 #[derive(Drop)]

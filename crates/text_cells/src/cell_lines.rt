@@ -1,6 +1,6 @@
 //! The lines of an open cell, taken one by one.
 ghost use Rattle.std.specs.Prelude.{◌≡◌, ◌++◌, IfOk, OnOk};
-ghost use Rattle.tagged_lines.specs.Tagged.{IsJoined, line_items};
+ghost use Rattle.text_lines.specs.Tagged.{IsJoined, line_items};
 ghost use Rattle.text_borders.specs.Across.{spaces, widened};
 ghost use Rattle.text_borders.specs.Borders.{border_of};
 ghost use Rattle.text_borders.specs.Lines.{text, border};
@@ -9,8 +9,8 @@ use crate::block_lines::BlockLines;
 use crate::cell::LineSet;
 use crate::opening::OpenCell;
 use std::alloc::{AllocError, Global};
-use tagged_lines::{EqualCopy, TaggedLine};
 use text_borders::{BorderHoriz, RenderLine};
+use text_lines::{EqualCopy, TaggedLine};
 
 /// A text of so many spaces. The error is allocation failure alone.
 pub(crate) fn spaces<T: EqualCopy + Drop>(
@@ -63,7 +63,7 @@ fn move_border<T: EqualCopy + Drop>(
 
 impl<T: EqualCopy + Drop> OpenCell<T> {
     ghost use Rattle.std.specs.Prelude.{◌-◌};
-    ghost use Rattle.text_borders.specs.Across.{cell_height, cell_items, line_or, Cell};
+    ghost use Rattle.text_borders.specs.Across.{cell_height, cell_items, line_or};
     ghost use Rattle.text_cells.specs.Cells.{cell_of};
     ghost use Rattle.text_cells.specs.OpenCells.{open_cell_of, after, next_cell};
 

@@ -6,7 +6,7 @@ ghost use Rattle.text_cells.specs.OpenCells.{open_cell_of, ends};
 use crate::opening::OpenCell;
 use smallvec::SmallVec;
 use std::alloc::{AllocError, Global};
-use tagged_lines::EqualCopy;
+use text_lines::EqualCopy;
 
 /// The signs of so many cells take no memory of their own.
 const FEW: usize = 8;
@@ -43,7 +43,7 @@ fn ends_of<T: EqualCopy + Drop>(
     let mut at = 0;
     let mut rest = cells;
     while let Some((cell, others)) = rest.split_first() {
-        let next = behind(at, cell.width)?;
+        let next = trailing(at, cell.width)?;
         ends.push(next - 1)?;
         at = next;
         rest = others;
@@ -52,7 +52,7 @@ fn ends_of<T: EqualCopy + Drop>(
 }
 
 /// The column at which the next cell begins. No memory holds a row of more columns than a `usize` counts.
-pub(crate) fn behind(at: usize, width: usize) -> Result<usize, AllocError>
+pub(crate) fn trailing(at: usize, width: usize) -> Result<usize, AllocError>
     ensures { IfOk result (λ n. n ≡ at + width + 1) }
 {
     let end = at.checked_add(width).ok_or(AllocError)?;

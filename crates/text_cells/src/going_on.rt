@@ -6,11 +6,11 @@ ghost use Rattle.text_cells.specs.Cells.{hanging_of};
 ghost use Rattle.text_cells.specs.OpenCells.{open_cell_of, left_at};
 
 use crate::cell::HangingCell;
-use crate::columns::behind;
+use crate::columns::trailing;
 use crate::opening::OpenCell;
 use std::alloc::{AllocError, Global};
-use tagged_lines::EqualCopy;
 use text_borders::BorderHoriz;
+use text_lines::EqualCopy;
 
 /// The cells that go on, with the lines that are left: the next line of each makes a hole in the border below. The
 /// error is allocation failure alone.
@@ -28,7 +28,7 @@ pub(crate) fn going_on<T: EqualCopy + Drop>(
     let mut hanging = Vec::new(alloc);
     let mut at = 0;
     for cell in cells {
-        let next = behind(at, cell.width)?;
+        let next = trailing(at, cell.width)?;
         go_on(alloc, tag, below, &mut hanging, at, cell)?;
         at = next;
     }

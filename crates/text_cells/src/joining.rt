@@ -6,11 +6,11 @@ ghost use Rattle.text_borders.specs.Borders.{border_of, horizontal, plain, stret
 ghost use Rattle.text_borders.specs.Across.{of_cells};
 ghost use Rattle.text_cells.specs.OpenCells.{open_cell_of};
 
-use crate::columns::{Columns, behind};
+use crate::columns::{Columns, trailing};
 use crate::opening::OpenCell;
 use std::alloc::{AllocError, Global};
-use tagged_lines::EqualCopy;
 use text_borders::BorderHoriz;
+use text_lines::EqualCopy;
 
 /// The border above, stretched to the row, and joined to the signs and to the borders at the beginning of cells. The
 /// error is allocation failure alone.
@@ -60,7 +60,7 @@ fn merge_tops<T: EqualCopy + Drop>(
     let mut rest = cells;
     while let Some((cell, others)) = rest.split_first() {
         merge_top(border, cell, at)?;
-        at = behind(at, cell.width)?;
+        at = trailing(at, cell.width)?;
         rest = others;
     }
     Ok(())
@@ -126,7 +126,7 @@ fn merge_bottoms<T: EqualCopy + Drop>(
     let mut rest = cells;
     while let Some((cell, others)) = rest.split_first() {
         merge_bottom(border, cell, at)?;
-        at = behind(at, cell.width)?;
+        at = trailing(at, cell.width)?;
         rest = others;
     }
     Ok(())

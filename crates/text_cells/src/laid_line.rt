@@ -1,7 +1,7 @@
 //! Lines of a block, each with whether it has content.
 
-use tagged_lines::TaggedLine;
 use text_borders::RenderLine;
+use text_lines::TaggedLine;
 
 /// A line of a block.
 #[derive(Drop)]

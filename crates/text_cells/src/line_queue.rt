@@ -27,8 +27,7 @@ impl<T> Model for LineQueue<T> {
 }
 
 impl<T: Drop> LineQueue<T> {
-    ghost use Rattle.std.specs.Prelude.{[], ◌∷◌, drop};
-    ghost use Rattle.std.specs.Prelude.{IsNone};
+    ghost use Rattle.std.specs.Prelude.{[], ◌∷◌, IsNone, drop};
 
     /// A line by itself, or lines in a vector.
     pub(crate) fn of_parts(only: Option<LaidLine<T>>, rest: Vec<LaidLine<T>>) -> LineQueue<T>

@@ -28,8 +28,7 @@ impl<T> Model for LineVec<T> {
 }
 
 impl<T: Drop> LineVec<T> {
-    ghost use Rattle.std.specs.Prelude.{[], ◌∷◌, ◌==◌, is_ok, if◌then◌else◌};
-    ghost use Rattle.std.specs.Prelude.{IfOk, IfSome, IsNone};
+    ghost use Rattle.std.specs.Prelude.{[], ◌∷◌, ◌==◌, if◌then◌else◌, IfOk, IfSome, IsNone, is_ok};
 
     /// No lines.
     pub(crate) fn new(alloc: Global) -> LineVec<T>

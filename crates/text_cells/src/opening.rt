@@ -8,8 +8,8 @@ use crate::cell::LineSet;
 use crate::laid_line::LaidLine;
 use crate::line_queue::LineQueue;
 use std::alloc::{AllocError, Global};
-use tagged_lines::{EqualCopy, TaggedLine};
 use text_borders::{BorderHoriz, RenderLine};
+use text_lines::{EqualCopy, TaggedLine};
 
 /// A cell of a row, without the borders that were its first and its last line.
 #[derive(Drop)]

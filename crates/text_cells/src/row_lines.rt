@@ -1,12 +1,12 @@
 //! The lines of a row.
 ghost use Rattle.std.specs.Prelude.{◌≡◌, ◌++◌, map, All, IfOk, OnOk};
-ghost use Rattle.tagged_lines.specs.Tagged.{line_items, IsJoined};
+ghost use Rattle.text_lines.specs.Tagged.{line_items, IsJoined};
 ghost use Rattle.text_borders.specs.Across.{sign_of, row_height, row_lines, row_items};
 ghost use Rattle.text_cells.specs.OpenCells.{open_cell_of, after, sign_before};
 
 use crate::opening::OpenCell;
 use std::alloc::{AllocError, Global};
-use tagged_lines::{EqualCopy, TaggedLine};
+use text_lines::{EqualCopy, TaggedLine};
 
 /// What stands between cells.
 pub(crate) fn sign_of(draws: bool) -> char

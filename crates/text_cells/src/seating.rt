@@ -1,15 +1,15 @@
 //! Cells and hanging cells in one row.
 ghost use Rattle.std.specs.Prelude.{◌≡◌, ◌+◌, List, ◌∷◌, ◌++◌, map, IfOk, OnOk};
-ghost use Rattle.text_borders.specs.Across.{Cell, seated, seated_behind};
+ghost use Rattle.text_borders.specs.Across.{Cell, seated, seated_after};
 ghost use Rattle.text_cells.specs.Cells.{cell_of, hanging_of};
 ghost use Rattle.text_cells.specs.OpenCells.{hangs_at, gap};
 
 use crate::block_lines::BlockLines;
 use crate::cell::{HangingCell, LineSet};
-use crate::columns::behind;
+use crate::columns::trailing;
 use std::alloc::{AllocError, Global};
 use std::collections::VecDeque;
-use tagged_lines::EqualCopy;
+use text_lines::EqualCopy;
 
 /// The cells of a row: each hanging cell stands in place of the first cell that begins at its place or after it, or
 /// after the row. The error is allocation failure alone.
@@ -29,11 +29,11 @@ pub(crate) fn seated<T: EqualCopy + Drop>(
     let mut waiting = VecDeque::from_vec(hanging);
     let mut at = 0;
     for cell in cells {
-        let next = behind(at, cell.width)?;
+        let next = trailing(at, cell.width)?;
         row.push(seated_at(at, cell, &mut waiting))?;
         at = next;
     }
-    push_behind(alloc, &mut row, at, waiting)?;
+    push_after(alloc, &mut row, at, waiting)?;
     Ok(row)
 }
 
@@ -66,19 +66,19 @@ fn hangs_at<T: EqualCopy + Drop>(at: usize, waiting: &VecDeque<HangingCell<T>>) 
 }
 
 /// Adds the hanging cells that stand after a row which ends before a column.
-fn push_behind<T: EqualCopy + Drop>(
+fn push_after<T: EqualCopy + Drop>(
     alloc: Global,
     row: &mut Vec<LineSet<T>>,
     at: usize,
     waiting: VecDeque<HangingCell<T>>,
 ) -> Result<(), AllocError>
     ensures { OnOk result (map (cell_of T.seen) row.new.items ≡ map (cell_of T.seen) row.old.items
-        ++ seated_behind at (map (hanging_of T.seen) waiting.items)) }
+        ++ seated_after at (map (hanging_of T.seen) waiting.items)) }
 {
     let mut end = at;
     for last in waiting {
         push_gap(alloc, row, end, last.place)?;
-        end = behind(end.max(last.place), last.cell.width)?;
+        end = trailing(end.max(last.place), last.cell.width)?;
         row.push(last.cell)?;
     }
     Ok(())

@@ -5,7 +5,7 @@ ghost use Rattle.text_cells.specs.Texts.{AreWide, text_count};
 use crate::laid_line::LaidText;
 use std::alloc::{AllocError, Global};
 use std::collections::VecDeque;
-use tagged_lines::{EqualCopy, TaggedLine};
+use text_lines::{EqualCopy, TaggedLine};
 
 /// Texts of a block that are known to be at least so wide: in a row of one cell of no more columns each stays as it is,
 /// so that tables within one another take no line again.
@@ -32,7 +32,7 @@ impl<T: Drop> Drop for WideTexts<T> {
 
 impl<T: EqualCopy + Drop> WideTexts<T> {
     ghost use Rattle.std.specs.Prelude.{[], ◌∷◌, ◌==◌, map, length, OnOk, IfSome, IsNone, IsTrue};
-    ghost use Rattle.tagged_lines.specs.Tagged.{line_items};
+    ghost use Rattle.text_lines.specs.Tagged.{line_items};
     ghost use Rattle.text_borders.specs.Lines.{text};
     ghost use Rattle.text_cells.specs.Texts.{laid_text_of, in_row};
     ghost use Rattle.text_cells.specs.Cells.{texts_of, texts_content, texts_items, HaveTextContent};

@@ -1,6 +1,6 @@
 -- The characters of texts that begin in ASCII.
-use Rattle.std.proofs.Common.{◌≡◌, ℕ, zero, suc, ◌<◌, ◌^◌, ℤ, List, [], ◌∷◌, ◌++◌, replicate, codes, FitsSigned}
-use Rattle.std.proofs.Common.{IsAscii, IsUtf8, refl, ap, sym, ◌∙◌, append_assoc, arith}
+use Rattle.std.proofs.Common.{◌≡◌, ◌<◌, ◌^◌, [], ◌∷◌, ◌++◌, ◌∙◌, FitsSigned, IsAscii, IsUtf8, List, ap, append_assoc}
+use Rattle.std.proofs.Common.{arith, codes, refl, replicate, suc, sym, zero, ℕ, ℤ}
 use Rattle.std.specs.Fmt.{decimal, signed_decimal}
 use Rattle.std.specs.Int.{w64}
 use Rattle.std.specs.List.{repeat}
@@ -61,9 +61,9 @@ numbered n bs target small h = ap chars h ∙ opening (decimal n ++ (0x5D ∷ 0x
     ∙ sym (append_assoc (decimal n) (0x5D ∷ 0x3A ∷ 0x20 ∷ []) (chars target)))
 
 -- the same where it is written after a text, which is empty
-pub numbered_behind : (n : ℕ) (old bs target : List ℕ) → n < 2 ^ 64 → old ≡ []
+pub numbered_after : (n : ℕ) (old bs target : List ℕ) → n < 2 ^ 64 → old ≡ []
     → bs ≡ old ++ (codes "[" ++ (decimal n ++ (codes "]: " ++ target))) → chars bs ≡ footnote_text n (chars target)
-numbered_behind n old bs target small none h =
+numbered_after n old bs target small none h =
     numbered n bs target small
     (h ∙ ap (λ (l : List ℕ). l ++ (codes "[" ++ (decimal n ++ (codes "]: " ++ target)))) none)
 

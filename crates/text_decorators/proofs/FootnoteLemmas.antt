@@ -1,8 +1,8 @@
 -- Footnotes under what is seen of their tag.
 use Rattle.std.proofs.Common.{◌≡◌, ℕ, List, [], ◌∷◌, ◌∙◌, ap, ap₂, map, refl}
-use Rattle.tagged_lines.specs.Tagged.{character, reitem, tagged}
+use Rattle.text_lines.specs.Tagged.{character, reitem, tagged}
 use Rattle.text_decorators.specs.Texts.{footnote_lines, footnote_texts}
-use Rattle.text_marks.specs.Marks.{seen_lines}
+use Rattle.text_decorators.specs.Marks.{seen_lines}
 
 tagged_seen : {T S : Type 0} (seen : T → S) (tag : T) (cs : List ℕ)
     → tagged cs (seen tag) ≡ map (reitem seen) (tagged cs tag)

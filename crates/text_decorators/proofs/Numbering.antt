@@ -1,8 +1,8 @@
 -- One footnote more.
-use Rattle.std.proofs.Common.{◌≡◌, ℕ, suc, ◌+◌, ◌<◌, ◌≤◌, List, [], ◌∷◌, ◌++◌, map, length, get_or, take, String}
-use Rattle.std.proofs.Common.{Global, chars, string_bytes, ap, ap₂, sym, ◌∙◌, arith, add-one, length-append}
-use Rattle.tagged_lines.specs.Tagged.{Item, tagged, line_items}
-use Rattle.tagged_lines.specs.declared.tagged_line.TaggedLine.{TaggedLine}
+use Rattle.std.proofs.Common.{◌≡◌, ◌+◌, ◌<◌, ◌≤◌, [], ◌∷◌, ◌++◌, ◌∙◌, Global, List, String, add-one, ap, ap₂, arith}
+use Rattle.std.proofs.Common.{chars, get_or, length, length-append, map, string_bytes, suc, sym, take, ℕ}
+use Rattle.text_lines.specs.Tagged.{Item, tagged, line_items}
+use Rattle.text_lines.specs.declared.tagged_line.TaggedLine.{TaggedLine}
 use Rattle.std.proofs.lemmas.List.{map-append, length-map, length-take-le, take_all}
 use Rattle.std.proofs.Math.Seq.{take-suc}
 use Rattle.text_decorators.specs.Texts.{footnote_lines, footnote_text, footnote_texts}

@@ -8,12 +8,12 @@ use Rattle.std.proofs.lemmas.Slice.Eq.{bytes_eq-Decides}
 use Rattle.std.proofs.lemmas.Str.{encodes-chars, IsUtf8-string_bytes}
 use Rattle.text_decorators.specs.Annotations.{link, image, preformatted, colour, background, rich_tag}
 use Rattle.text_decorators.specs.contracts.annotation.RichAnnotationPartialEq.TheImpl.{eq-value as annotations}
-use Rattle.text_marks.specs.contracts.colour.ColourPartialEq.TheImpl.{eq-value as colours}
-use Rattle.text_marks.specs.declared.colour.Colour.{Colour as ColourParts}
+use Rattle.text_decorators.specs.contracts.colour.ColourPartialEq.TheImpl.{eq-value as colours}
+use Rattle.text_decorators.specs.declared.colour.Colour.{Colour as ColourParts}
 use Rattle.text_decorators.specs.declared.annotation.RichAnnotation.{RichAnnotation}
-use Rattle.text_decorators.specs.declared.annotation.RichAnnotation.TheVariants.{Default, Link, Image, Emphasis, Strong}
-use Rattle.text_decorators.specs.declared.annotation.RichAnnotation.TheVariants.{Strikeout, Code, Preformat, Colour}
-use Rattle.text_decorators.specs.declared.annotation.RichAnnotation.TheVariants.{BgColour}
+use Rattle.text_decorators.specs.declared.annotation.RichAnnotation.TheVariants.{BgColour, Code, Colour, Default}
+use Rattle.text_decorators.specs.declared.annotation.RichAnnotation.TheVariants.{Emphasis, Image, Link, Preformat}
+use Rattle.text_decorators.specs.declared.annotation.RichAnnotation.TheVariants.{Strikeout, Strong}
 use lib.Utf8.{encodes}
 
 same_bytes : (xs ys : List ℕ) → IsUtf8 xs → IsUtf8 ys → chars xs ≡ chars ys → xs ≡ ys

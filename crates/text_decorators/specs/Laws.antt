@@ -1,16 +1,16 @@
 -- What the three decorators' answers have in common where contracts leave a choice.
 use Rattle.std.specs.Prelude.{◌≡◌, true, false, refl}
 use Rattle.std.proofs.Common.{ap, sym, ◌∙◌}
-use Rattle.text_decorators.specs.Annotations.{RichTag, nothing, link, image, emphasis, strong, strikeout, code}
-use Rattle.text_decorators.specs.Annotations.{preformatted, colour, background, rich_tag}
-use Rattle.text_marks.specs.Marks.{Mark, link_start, emphasis_start, strong_start, strikeout_start, code_start}
-use Rattle.text_marks.specs.Marks.{superscript_start, image as image_mark, preformat_first, preformat_further}
-use Rattle.text_marks.specs.Marks.{colour_start, background_start}
+use Rattle.text_decorators.specs.Annotations.{RichTag, background, code, colour, emphasis, image, link, nothing}
+use Rattle.text_decorators.specs.Annotations.{preformatted, rich_tag, strikeout, strong}
+use Rattle.text_decorators.specs.Marks.{Mark, background_start, code_start, colour_start, emphasis_start}
+use Rattle.text_decorators.specs.Marks.{image as image_mark, link_start, preformat_first, preformat_further}
+use Rattle.text_decorators.specs.Marks.{strikeout_start, strong_start, superscript_start}
 use Rattle.text_decorators.specs.Texts.{IsRich}
 use Rattle.text_decorators.specs.declared.annotation.RichAnnotation.{RichAnnotation}
-use Rattle.text_decorators.specs.declared.annotation.RichAnnotation.TheVariants.{Default, Link, Image, Emphasis, Strong}
-use Rattle.text_decorators.specs.declared.annotation.RichAnnotation.TheVariants.{Strikeout, Code, Preformat, Colour}
-use Rattle.text_decorators.specs.declared.annotation.RichAnnotation.TheVariants.{BgColour}
+use Rattle.text_decorators.specs.declared.annotation.RichAnnotation.TheVariants.{BgColour, Code, Colour, Default}
+use Rattle.text_decorators.specs.declared.annotation.RichAnnotation.TheVariants.{Emphasis, Image, Link, Preformat}
+use Rattle.text_decorators.specs.declared.annotation.RichAnnotation.TheVariants.{Strikeout, Strong}
 
 -- what is seen of the annotation that rich text notes at a mark
 abbrev pub rich_mark_tag : Mark → RichTag
@@ -27,8 +27,8 @@ rich_mark_tag (background_start c) = background c
 rich_mark_tag _ = nothing
 
 pub rich_tag_fits : (m : Mark) (a : RichAnnotation) → IsRich m a → rich_tag a ≡ rich_mark_tag m
-rich_tag_fits (link_start target) (Link told) h = ap link h
-rich_tag_fits (image_mark source title) (Image told) h = ap image h
+rich_tag_fits (link_start target) (Link emitted) h = ap link h
+rich_tag_fits (image_mark source title) (Image emitted) h = ap image h
 rich_tag_fits emphasis_start Emphasis h = refl
 rich_tag_fits strong_start Strong h = refl
 rich_tag_fits strikeout_start Strikeout h = refl
@@ -36,8 +36,8 @@ rich_tag_fits code_start Code h = refl
 rich_tag_fits superscript_start Default h = refl
 rich_tag_fits preformat_first (Preformat further) h = ap preformatted h
 rich_tag_fits preformat_further (Preformat further) h = ap preformatted h
-rich_tag_fits (colour_start c) (Colour told) h = ap colour h
-rich_tag_fits (background_start c) (BgColour told) h = ap background h
+rich_tag_fits (colour_start c) (Colour emitted) h = ap colour h
+rich_tag_fits (background_start c) (BgColour emitted) h = ap background h
 rich_tag_fits _ _ h = absurd h
 
 -- the annotations that fit a mark are seen alike

@@ -1,5 +1,7 @@
-pub mod Texts
-pub mod Steady
-pub mod Annotations
 pub mod AnnotationCopies
+pub mod Annotations
+pub mod Colours
 pub mod Laws
+pub mod Marks
+pub mod Steady
+pub mod Texts

@@ -1,6 +1,6 @@
 -- The prefixes of the three decorators are steady.
-use Rattle.std.specs.Prelude.{◌≡◌, ℕ, suc, ◌+◌, ◌/◌, ◌%◌, ◌<◌, ◌≤◌, ◌^◌, max, ℤ, pos, negsuc, ◌≤ℤ◌, ◌⊎◌, FitsSigned}
-use Rattle.std.specs.Prelude.{Option, unwrap_or, List, [], ◌∷◌, ◌++◌, length, codes, refl}
+use Rattle.std.specs.Prelude.{◌≡◌, ◌+◌, ◌/◌, ◌%◌, ◌<◌, ◌≤◌, ◌^◌, ◌≤ℤ◌, ◌⊎◌, [], ◌∷◌, ◌++◌, FitsSigned, List, Option}
+use Rattle.std.specs.Prelude.{codes, length, max, negsuc, pos, refl, suc, unwrap_or, ℕ, ℤ}
 use Rattle.std.specs.Fmt.{decimal, signed_decimal}
 use Rattle.std.specs.Int.{w64}
 use Rattle.std.proofs.Common.{arith, ap, ◌∙◌, inl, inr, length-append}
@@ -8,8 +8,8 @@ use Rattle.std.proofs.lemmas.Bool.{cases_lt}
 use Rattle.std.proofs.lemmas.Fmt.{decimal_by_steps, decimal_digit, decimal_step}
 use Rattle.std.proofs.lemmas.Int.{ints}
 use Rattle.std.proofs.lemmas.List.Sums.{sum_by-append}
-use Rattle.tagged_lines.specs.Columns.{width_of, text_columns, columns_of-one}
-use Rattle.text_marks.specs.Marks.{Mark, IsSteady, ordered_item}
+use Rattle.text_lines.specs.Columns.{width_of, text_columns, columns_of-one}
+use Rattle.text_decorators.specs.Marks.{Mark, IsSteady, ordered_item}
 use Rattle.text_decorators.specs.Texts.{plain_text, trivial_text, rich_text}
 use lib.Signed.{mag}
 

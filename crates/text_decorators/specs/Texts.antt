@@ -1,16 +1,16 @@
 -- The texts of the three decorators, and what they note beside them.
-use Rattle.std.specs.Prelude.{◌≡◌, ℕ, suc, Bool, true, false, List, [], ◌∷◌, ◌++◌, map, replicate, codes, chars}
-use Rattle.std.specs.Prelude.{string_bytes}
+use Rattle.std.specs.Prelude.{◌≡◌, [], ◌∷◌, ◌++◌, Bool, List, chars, codes, false, map, replicate, string_bytes, suc}
+use Rattle.std.specs.Prelude.{true, ℕ}
 use Rattle.std.specs.Fmt.{decimal, signed_decimal}
-use Rattle.tagged_lines.specs.Tagged.{Item, tagged}
-use Rattle.text_marks.specs.Marks.{Mark, link_start, link_end, emphasis_start, strong_start, strikeout_start}
-use Rattle.text_marks.specs.Marks.{code_start, superscript_start, superscript_end, image, preformat_first}
-use Rattle.text_marks.specs.Marks.{preformat_further, header, quote, unordered_item, ordered_item, colour_start}
-use Rattle.text_marks.specs.Marks.{background_start}
+use Rattle.text_lines.specs.Tagged.{Item, tagged}
+use Rattle.text_decorators.specs.Marks.{Mark, background_start, code_start, colour_start, emphasis_start, header, image}
+use Rattle.text_decorators.specs.Marks.{link_end, link_start, ordered_item, preformat_first, preformat_further, quote}
+use Rattle.text_decorators.specs.Marks.{strikeout_start, strong_start, superscript_end, superscript_start}
+use Rattle.text_decorators.specs.Marks.{unordered_item}
 use Rattle.text_decorators.specs.declared.annotation.RichAnnotation.{RichAnnotation}
-use Rattle.text_decorators.specs.declared.annotation.RichAnnotation.TheVariants.{Default, Link, Image, Emphasis, Strong}
-use Rattle.text_decorators.specs.declared.annotation.RichAnnotation.TheVariants.{Strikeout, Code, Preformat, Colour}
-use Rattle.text_decorators.specs.declared.annotation.RichAnnotation.TheVariants.{BgColour}
+use Rattle.text_decorators.specs.declared.annotation.RichAnnotation.TheVariants.{BgColour, Code, Colour, Default}
+use Rattle.text_decorators.specs.declared.annotation.RichAnnotation.TheVariants.{Emphasis, Image, Link, Preformat}
+use Rattle.text_decorators.specs.declared.annotation.RichAnnotation.TheVariants.{Strikeout, Strong}
 
 -- Superscripts are marked as TeX does, headings, quotes and items as Markdown does.
 abbrev pub superscript_text : Mark → List ℕ
@@ -44,8 +44,8 @@ rich_text m = prefix_text m
 
 -- the annotation that rich text notes at a mark
 abbrev pub IsRich : Mark → RichAnnotation → Type 0
-IsRich (link_start target) (Link told) = chars (string_bytes told) ≡ target
-IsRich (image source title) (Image told) = chars (string_bytes told) ≡ source
+IsRich (link_start target) (Link emitted) = chars (string_bytes emitted) ≡ target
+IsRich (image source title) (Image emitted) = chars (string_bytes emitted) ≡ source
 IsRich emphasis_start Emphasis = Unit {0}
 IsRich strong_start Strong = Unit {0}
 IsRich strikeout_start Strikeout = Unit {0}
@@ -53,8 +53,8 @@ IsRich code_start Code = Unit {0}
 IsRich superscript_start Default = Unit {0}
 IsRich preformat_first (Preformat further) = further ≡ false
 IsRich preformat_further (Preformat further) = further ≡ true
-IsRich (colour_start c) (Colour told) = told ≡ c
-IsRich (background_start c) (BgColour told) = told ≡ c
+IsRich (colour_start c) (Colour emitted) = emitted ≡ c
+IsRich (background_start c) (BgColour emitted) = emitted ≡ c
 IsRich _ _ = ⊥
 
 -- where rich text notes one of a colour

@@ -1,9 +1,9 @@
 ghost use Rattle.std.specs.Prelude.{◌≡◌, IfOk};
 
+use crate::colour::Colour;
 use crate::default_marks::literal;
 use std::alloc::{AllocError, Global};
-use tagged_lines::EqualCopy;
-use text_marks::Colour;
+use text_lines::EqualCopy;
 
 /// What rich text notes beside a text.
 #[derive(Debug, Default, Drop, PartialEq, Eq)]

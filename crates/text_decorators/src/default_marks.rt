@@ -1,11 +1,11 @@
 //! The answers of decorators that have none of their own.
 ghost use Rattle.std.specs.Prelude.{◌≡◌, [], map, codes, chars, string_bytes, IfOk};
-ghost use Rattle.tagged_lines.specs.Tagged.{line_items, tagged};
+ghost use Rattle.text_lines.specs.Tagged.{line_items, tagged};
 ghost use Rattle.text_decorators.specs.Texts.{footnote_lines, footnote_text};
 
 use std::alloc::{AllocError, Global};
 use std::fmt::Write;
-use tagged_lines::{EqualCopy, TaggedLine};
+use text_lines::{EqualCopy, TaggedLine};
 
 /// The text before a superscript, as TeX writes it, under the annotation that is the default.
 pub fn superscript_start<A: Default>(alloc: Global) -> Result<(String, A), AllocError>

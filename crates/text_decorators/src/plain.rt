@@ -2,11 +2,12 @@ ghost use Rattle.std.specs.Prelude.{◌≡◌, ◌++◌, refl, false, codes, cha
 ghost use Rattle.text_decorators.specs.Texts.{plain_text, footnote_lines};
 ghost use Rattle.text_decorators.specs.Steady.{plain_is_steady};
 
+use crate::colour::Colour;
+use crate::decorator::{SteadyPrefixes, TextDecorator};
 use crate::default_marks::{footnotes, literal, no_text, superscript_end, superscript_start};
 use crate::prefixes;
 use std::alloc::{AllocError, Global};
-use tagged_lines::TaggedLine;
-use text_marks::{Colour, SteadyPrefixes, TextDecorator};
+use text_lines::TaggedLine;
 
 /// The decorator of plain text: brackets round links and images, and the prefixes of Markdown; it tags nothing.
 #[derive(Clone, Copy)]

@@ -5,11 +5,12 @@ ghost use Rattle.text_decorators.specs.Laws.{rich_tags_are_one};
 ghost use Rattle.text_decorators.specs.Steady.{rich_is_steady};
 
 use crate::annotation::RichAnnotation;
+use crate::colour::Colour;
+use crate::decorator::{SteadyPrefixes, TextDecorator};
 use crate::default_marks::{footnotes, literal, no_text, superscript_end, superscript_start};
 use crate::prefixes;
 use std::alloc::{AllocError, Global};
-use tagged_lines::TaggedLine;
-use text_marks::{Colour, SteadyPrefixes, TextDecorator};
+use text_lines::TaggedLine;
 
 /// The decorator of rich text: annotations say what plain text has marks for, but for prefixes.
 #[derive(Clone, Copy)]

@@ -2,10 +2,11 @@ ghost use Rattle.std.specs.Prelude.{refl, false};
 ghost use Rattle.text_decorators.specs.Texts.{trivial_text, footnote_lines};
 ghost use Rattle.text_decorators.specs.Steady.{trivial_is_steady};
 
+use crate::colour::Colour;
+use crate::decorator::{SteadyPrefixes, TextDecorator};
 use crate::default_marks::{footnotes, literal, no_text, superscript_end, superscript_start};
 use std::alloc::{AllocError, Global};
-use tagged_lines::TaggedLine;
-use text_marks::{Colour, SteadyPrefixes, TextDecorator};
+use text_lines::TaggedLine;
 
 /// The decorator of text alone: it marks nothing but superscripts, and tags nothing.
 #[derive(Clone, Copy)]

@@ -1,10 +1,10 @@
 -- Whether a line has text; the columns of characters.
 use Rattle.std.proofs.Common.{◌≡◌, ℕ, List, [], ◌∷◌, sym, ap, ◌∙◌, refl}
 use Rattle.std.specs.Prelude.{Option, unwrap_or}
-use Rattle.tagged_lines.specs.Columns.{columns_of, width_of}
-use Rattle.tagged_lines.specs.Elements.{Item, character, marker, characters, elements_items, elements_text}
-use Rattle.tagged_lines.specs.declared.tagged_string.TaggedLineElement.{TaggedLineElement}
-use Rattle.tagged_lines.proofs.Joins.{elements_characters}
+use Rattle.text_lines.specs.Columns.{columns_of, width_of}
+use Rattle.text_lines.specs.Elements.{Item, character, marker, characters, elements_items, elements_text}
+use Rattle.text_lines.specs.declared.tagged_string.TaggedLineElement.{TaggedLineElement}
+use Rattle.text_lines.proofs.Joins.{elements_characters}
 use Rattle.text_pieces.specs.Sources.{is_filled}
 use Rattle.text_pieces.specs.Items.{has_text}
 

@@ -1,9 +1,9 @@
 -- What was made of a line's elements so far.
-use Rattle.std.proofs.Common.{◌≡◌, ℕ, ◌<◌, ◌||◌, List, [], ◌∷◌, ◌++◌, length, take, get_or, sym, ap, ◌∙◌, refl}
-use Rattle.std.proofs.Common.{append_assoc, arith}
+use Rattle.std.proofs.Common.{◌≡◌, ◌<◌, ◌||◌, [], ◌∷◌, ◌++◌, ◌∙◌, List, ap, append_assoc, arith, get_or, length, refl}
+use Rattle.std.proofs.Common.{sym, take, ℕ}
 use Rattle.std.proofs.lemmas.List.{append-nil, length_push, take_more, take_all}
-use Rattle.tagged_lines.specs.Elements.{Item, character, marker, tagged, element_items, elements_items}
-use Rattle.tagged_lines.specs.declared.tagged_string.TaggedLineElement.{TaggedLineElement}
+use Rattle.text_lines.specs.Elements.{Item, character, marker, tagged, element_items, elements_items}
+use Rattle.text_lines.specs.declared.tagged_string.TaggedLineElement.{TaggedLineElement}
 use Rattle.text_pieces.specs.Items.{has_text, markers_of}
 
 pub next_taken : {A Y : Type 0} (all : List A) (ys : List Y) (y : Y) (x : A)

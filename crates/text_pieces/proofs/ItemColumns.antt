@@ -1,8 +1,8 @@
 -- Columns and characters of items.
 use Rattle.std.proofs.Common.{◌≡◌, ◌+◌, false, List, [], ◌∷◌, ◌++◌, refl, ap, ◌∙◌, arith}
 use Rattle.std.proofs.lemmas.List.Sums.{sum_by-append, sum_by-cons}
-use Rattle.tagged_lines.specs.Columns.{width_of, text_columns}
-use Rattle.tagged_lines.specs.Tagged.{Item, character, marker, characters, line_columns}
+use Rattle.text_lines.specs.Columns.{width_of, text_columns}
+use Rattle.text_lines.specs.Tagged.{Item, character, marker, characters, line_columns}
 use Rattle.text_pieces.specs.Items.{has_text, item_columns}
 
 -- columns and characters item by item

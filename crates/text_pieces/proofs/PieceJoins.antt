@@ -1,11 +1,11 @@
 -- A text that joins the last piece.
-use Rattle.std.proofs.Common.{◌≡◌, ℕ, ◌+◌, ◌-◌, List, [], ◌∷◌, ◌++◌, Option, None, Some, length, take, set, get_or}
-use Rattle.std.proofs.Common.{slice_get, sym, ap, ◌∙◌, subst, append_assoc, append-nil, arith, chars}
+use Rattle.std.proofs.Common.{◌≡◌, ◌+◌, ◌-◌, [], ◌∷◌, ◌++◌, ◌∙◌, List, None, Option, Some, ap, append-nil, append_assoc}
+use Rattle.std.proofs.Common.{arith, chars, get_or, length, set, slice_get, subst, sym, take, ℕ}
 use Rattle.std.specs.Prelude.{IsSomeAnd, string_bytes}
 use Rattle.std.proofs.lemmas.List.{map-append}
 use Rattle.std.proofs.lemmas.Option.{slice_get-get_or}
 use Rattle.std.proofs.lemmas.Str.{chars-append, IsUtf8-string_bytes}
-use Rattle.tagged_lines.proofs.Joins.{last_split, last_set}
+use Rattle.text_lines.proofs.Joins.{last_split, last_set}
 use Rattle.text_pieces.specs.declared.piece.Piece.{Piece}
 use Rattle.text_pieces.specs.declared.piece.Piece.TheVariants.{Text, Fragment}
 use Rattle.text_pieces.specs.Sources.{letter, sourced, piece_sources, sources_of, wrap_seen}

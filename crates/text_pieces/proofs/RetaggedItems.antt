@@ -1,10 +1,9 @@
 -- Items and sources under other tags: what does not look at tags is the same of them.
-use Rattle.std.proofs.Common.{◌≡◌, ℕ, Bool, true, false, List, [], ◌∷◌, map, drop, replicate, ap, ◌∙◌}
-use Rattle.std.proofs.Common.{refl}
+use Rattle.std.proofs.Common.{◌≡◌, [], ◌∷◌, ◌∙◌, Bool, List, ap, drop, false, map, refl, replicate, true, ℕ}
 use Rattle.std.specs.Prelude.{fold, if◌then◌else◌}
 use Prim.Native.Nat.{zero, suc}
-use Rattle.tagged_lines.specs.Columns.{text_columns}
-use Rattle.tagged_lines.specs.Tagged.{Item, character, marker, characters, line_columns}
+use Rattle.text_lines.specs.Columns.{text_columns}
+use Rattle.text_lines.specs.Tagged.{Item, character, marker, characters, line_columns}
 use Rattle.text_pieces.specs.Items.{has_text, item_columns, markers_of}
 use Rattle.text_pieces.specs.Sources.{Source, letter, fragment, names_of}
 use Rattle.text_pieces.specs.Retagged.{reitem, resource}

@@ -1,10 +1,10 @@
 -- What the calls that look for a mark in a text's bytes say of its characters.
-use Rattle.std.proofs.Common.{◌≡◌, ℕ, zero, suc, ◌<◌, List, [], ◌∷◌, ◌++◌, length, take, drop, eqb, Option, None, Some}
-use Rattle.std.proofs.Common.{IfSome, IsNone, IsUtf8, chars, Bor, sym, ap, subst, ◌∙◌, arith, length-drop}
+use Rattle.std.proofs.Common.{◌≡◌, ◌<◌, [], ◌∷◌, ◌++◌, ◌∙◌, Bor, IfSome, IsNone, IsUtf8, List, None, Option, Some, ap}
+use Rattle.std.proofs.Common.{arith, chars, drop, eqb, length, length-drop, subst, suc, sym, take, zero, ℕ}
 use Rattle.std.proofs.lemmas.Bool.{eqb-false}
 use Rattle.std.proofs.lemmas.List.{take-append-drop}
-use Rattle.std.proofs.lemmas.Str.{chars-append, chars-IsAscii, chars_from_encodes, IsUtf8-take, IsUtf8-from_ascii}
-use Rattle.std.proofs.lemmas.Str.{IsCharBoundary-before_ascii}
+use Rattle.std.proofs.lemmas.Str.{IsCharBoundary-before_ascii, IsUtf8-from_ascii, IsUtf8-take, chars-IsAscii}
+use Rattle.std.proofs.lemmas.Str.{chars-append, chars_from_encodes}
 use Rattle.std.proofs.lemmas.Str.Pattern.{IsSplitOnceResult, drop_at_char}
 use Rattle.std.specs.Str.{IsAscii, NoCharPasses, NonePass}
 use Rattle.std.specs.Str.Pattern.{FindsChar}

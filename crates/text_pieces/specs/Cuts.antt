@@ -12,7 +12,7 @@ pub record IsCutAt (mark : ℕ) (text front back : List ℕ) : Type 0 where
   pub lacks : Lacks mark front
 
 -- the text is a front and the rest
-pub record IsBehind (text rest : List ℕ) : Type 0 where
+pub record IsAfter (text rest : List ℕ) : Type 0 where
   pub front : List ℕ
   pub whole : text ≡ front ++ rest
   pub utf8 : IsUtf8 front

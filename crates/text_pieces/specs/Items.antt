@@ -1,7 +1,7 @@
 -- The items of a line: characters with tags, and markers.
 use Rattle.std.specs.Prelude.{ℕ, Bool, true, false, List, [], ◌∷◌}
-use Rattle.tagged_lines.specs.Columns.{width_of}
-use Rattle.tagged_lines.specs.Tagged.{Item, character, marker}
+use Rattle.text_lines.specs.Columns.{width_of}
+use Rattle.text_lines.specs.Tagged.{Item, character, marker}
 
 abbrev pub has_text : {S : Type 0} → List (Item S) → Bool
 has_text [] = false

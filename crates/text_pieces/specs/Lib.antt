@@ -5,4 +5,3 @@ pub mod Joins
 pub mod Modes
 pub mod Retagged
 pub mod Sources
-pub use Rattle.tagged_lines.specs.Columns

@@ -1,6 +1,6 @@
 -- What is laid out: characters with their tags, and markers between them.
-use Rattle.std.specs.Prelude.{ℕ, Bool, true, false, not, ◌&&◌, ◌||◌, ◌==◌, List, [], ◌∷◌, map, flat_map, chars}
-use Rattle.std.specs.Prelude.{string_bytes, String, unwrap_or}
+use Rattle.std.specs.Prelude.{◌&&◌, ◌||◌, ◌==◌, [], ◌∷◌, Bool, List, String, chars, false, flat_map, map, not}
+use Rattle.std.specs.Prelude.{string_bytes, true, unwrap_or, ℕ}
 use Rattle.std.specs.Option.{option_map}
 use Rattle.std.specs.Global.{Global}
 use Rattle.std.specs.Char.{is_whitespace}

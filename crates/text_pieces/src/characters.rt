@@ -1,14 +1,14 @@
 //! The characters of texts and lines.
-ghost use Rattle.std.specs.Prelude.{◌≡◌, ℕ, List, ◌<◌, ◌≤◌, ◌++◌, [], length, chars, IfSome, IsNone, IsUtf8};
-ghost use Rattle.std.specs.Prelude.{encode_utf8};
+ghost use Rattle.std.specs.Prelude.{◌≡◌, ◌<◌, ◌≤◌, ◌++◌, [], IfSome, IsNone, IsUtf8, List, chars, encode_utf8, length};
+ghost use Rattle.std.specs.Prelude.{ℕ};
 ghost use Rattle.std.specs.Char.{IsScalar};
-ghost use Rattle.tagged_lines.specs.Columns.{width_of};
-ghost use Rattle.tagged_lines.specs.Tagged.{line_items, line_text};
+ghost use Rattle.text_lines.specs.Columns.{width_of};
+ghost use Rattle.text_lines.specs.Tagged.{line_items, line_text};
 ghost use Rattle.text_pieces.specs.Sources.{is_break_point, is_white_space, is_filled};
-ghost use Rattle.text_pieces.specs.Cuts.{Lacks, IsCutAt, IsBehind};
+ghost use Rattle.text_pieces.specs.Cuts.{Lacks, IsCutAt, IsAfter};
 ghost use Rattle.text_pieces.specs.Items.{has_text};
 
-use tagged_lines::{Columns, EqualCopy, TaggedLine, UnicodeColumns};
+use text_lines::{Columns, EqualCopy, TaggedLine, UnicodeColumns};
 
 const ZERO_WIDTH_SPACE: char = '\u{200b}';
 
@@ -72,7 +72,7 @@ pub fn cut_at(text: &str, mark: char) -> Option<(&str, &str)>
 
 /// The text in front of a rest of it, and that rest.
 pub fn split_before<'a>(text: &'a str, rest: &str) -> (&'a str, &'a str)
-    requires { IsBehind text.now rest.now }
+    requires { IsAfter text.now rest.now }
     ensures parts { chars text.now ≡ chars result.0.now ++ chars result.1.now }
     ensures front { (front : List ℕ) → text.now ≡ front ++ rest.now → result.0.now ≡ front }
     ensures rest { result.1.now ≡ rest.now }

@@ -5,7 +5,7 @@ ghost use Rattle.text_pieces.specs.Joins.{HasTags, EndsWithTags, Extends};
 
 use crate::piece::{Piece, TextPiece};
 use std::alloc::AllocError;
-use tagged_lines::EqualCopy;
+use text_lines::EqualCopy;
 
 /// Adds characters with those tags at the end; they join the last piece, where its tags are equal. The error is
 /// allocation failure alone.

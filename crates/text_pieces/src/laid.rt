@@ -1,4 +1,4 @@
-use tagged_lines::TaggedLine;
+use text_lines::TaggedLine;
 
 /// The lines of a text, and the names of the markers that wait for what comes after it.
 #[derive(Drop)]

@@ -1,11 +1,11 @@
 //! The names of markers.
 ghost use Rattle.std.specs.Prelude.{◌≡◌, ◌++◌, IfOk, OnOk};
-ghost use Rattle.tagged_lines.specs.Tagged.{line_items, element_items};
+ghost use Rattle.text_lines.specs.Tagged.{line_items, element_items};
 ghost use Rattle.text_pieces.specs.Sources.{names};
 ghost use Rattle.text_pieces.specs.Items.{markers_of};
 
 use std::alloc::AllocError;
-use tagged_lines::{EqualCopy, TaggedLine, TaggedLineElement};
+use text_lines::{EqualCopy, TaggedLine, TaggedLineElement};
 
 /// The names of a line's markers before others.
 pub fn names_before<T: EqualCopy + Drop>(

@@ -3,7 +3,7 @@ ghost use Rattle.text_pieces.specs.Sources.{piece_sources, sourced, text_sources
 ghost use Rattle.std.specs.Option.{option_map};
 
 use std::alloc::{AllocError, Global};
-use tagged_lines::{EqualCopy, roomy_copy};
+use text_lines::{EqualCopy, roomy_copy};
 
 /// A part of a text that is laid out: characters with their tags, or a marker between them.
 #[derive(Drop)]

@@ -1,20 +1,20 @@
 -- Laws of blocks.
-use Rattle.std.proofs.Common.{◌≡◌, ℕ, ◌+◌, ◌-◌, ◌≤◌, Bool, true, false, ◌&&◌, ◌==◌, List, [], ◌∷◌, ◌++◌, None, Some}
-use Rattle.std.proofs.Common.{map, length, replicate, sym, ap, ◌∙◌, refl, arith}
+use Rattle.std.proofs.Common.{◌≡◌, ◌+◌, ◌-◌, ◌≤◌, ◌&&◌, ◌==◌, [], ◌∷◌, ◌++◌, ◌∙◌, Bool, List, None, Some, ap, arith}
+use Rattle.std.proofs.Common.{false, length, map, refl, replicate, sym, true, ℕ}
 use Rattle.std.specs.Prelude.{Option, if◌then◌else◌}
 use Rattle.std.specs.Option.{option_map, option_and_then}
 use Rattle.std.proofs.lemmas.Bool.{false≢true}
 use Rattle.std.proofs.lemmas.List.{length-append, length-map}
-use Rattle.tagged_lines.specs.Tagged.{Item, line_columns}
-use Rattle.preserved_text.specs.Preserved.{space}
+use Rattle.text_lines.specs.Tagged.{Item, line_columns}
+use Rattle.text_preserved.specs.Preserved.{space}
 use Rattle.text_pieces.specs.Modes.{is_preserved, is_same_mode}
 use Rattle.text_pieces.specs.declared.white_space.WhiteSpace.{WhiteSpace}
 use Rattle.text_pieces.specs.declared.white_space.WhiteSpace.TheVariants.{Normal, Pre, PreWrap}
-use Rattle.preserved_text.proofs.ColumnLemmas.{line_columns-replicate}
+use Rattle.text_preserved.proofs.ColumnLemmas.{line_columns-replicate}
 use Rattle.text_pieces.proofs.ItemColumns.{line_columns-append}
 use Rattle.text_wrapping.specs.Lines.{lines_in}
-use Rattle.text_wrapping.specs.Blocks.{Block, padded, lines_behind, lines_or_empty, is_too_narrow, ended, line_ended}
-use Rattle.text_wrapping.specs.Blocks.{line_feed, with_letter, took, took_all, with_mode, in_mode, added}
+use Rattle.text_wrapping.specs.Blocks.{Block, added, ended, in_mode, is_too_narrow, line_ended, line_feed, lines_after}
+use Rattle.text_wrapping.specs.Blocks.{lines_or_empty, padded, took, took_all, with_letter, with_mode}
 use Rattle.text_wrapping.specs.LawWords.{line_ends}
 use Rattle.text_wrapping.proofs.BlockLemmas.{took_all-append}
 
@@ -52,7 +52,7 @@ took_mode main further c b new is = by_end (is_preserved b.mode && (c == line_fe
     by_end : (t : Bool) → (if t then line_ended b else Some (with_letter main further c b)) ≡ Some new
         → new.mode ≡ b.mode
     by_end true e = mode_unless (is_too_narrow b)
-        (lines_behind b (lines_or_empty (lines_in b.mode b.width b.source))) new b.mode e refl
+        (lines_after b (lines_or_empty (lines_in b.mode b.width b.source))) new b.mode e refl
     by_end false e = ap (λ x. x.mode) (sym (some_same (with_letter main further c b) new e))
 
 took_all_mode : {S : Type 0} (main further : S) (cs : List ℕ) (b new : Block S)
@@ -64,8 +64,8 @@ took_all_mode {S = S} main further (c ∷ cs) b new is =
     by_first : ((mid : Block S) → took_all main further cs mid ≡ Some new → new.mode ≡ mid.mode)
         → (o : Option (Block S)) → took main further c b ≡ o
         → option_and_then (took_all main further cs) o ≡ Some new → new.mode ≡ b.mode
-    by_first behind None e h = cc
-    by_first behind (Some mid) e h = behind mid h ∙ took_mode main further c b mid e
+    by_first trailing None e h = cc
+    by_first trailing (Some mid) e h = trailing mid h ∙ took_mode main further c b mid e
 
 entered_mode : {S : Type 0} (mode : WhiteSpace) (b new : Block S) → in_mode mode b ≡ Some new → new.mode ≡ mode
 entered_mode {S = S} mode b new is = by_same (is_same_mode mode b.mode) refl is
@@ -118,12 +118,12 @@ cut_anywhere {S = S} mode (c ∷ front) back main further b = by_entered (in_mod
 -- ---- line ends
 
 no_fewer : {S : Type 0} (narrow : Bool) (b new : Block S) (lines : List (List (Item S)))
-    → (if narrow then None else Some (lines_behind b lines)) ≡ Some new
+    → (if narrow then None else Some (lines_after b lines)) ≡ Some new
     → length b.lines + length lines ≤ length new.lines
 no_fewer true b new lines is = cc
 no_fewer false b new lines is =
     let same : length (b.lines ++ map (padded b.width b.padding) lines) ≡ length new.lines =
-    ap (λ x. length x.lines) (some_same (lines_behind b lines) new is) in
+    ap (λ x. length x.lines) (some_same (lines_after b lines) new is) in
     omega (
       arith,
       same,
@@ -164,10 +164,10 @@ took_all_gives {S = S} main further (c ∷ cs) b new preserved is =
         → (o : Option (Block S)) → took main further c b ≡ o
         → option_and_then (took_all main further cs) o ≡ Some new
         → length b.lines + ((if c == line_feed then 1 else 0) + line_ends cs) ≤ length new.lines
-    by_first behind None e h = cc
-    by_first behind (Some mid) e h =
+    by_first trailing None e h = cc
+    by_first trailing (Some mid) e h =
         let here = took_gives main further c b mid preserved e in
-        let rest = behind mid (ap is_preserved (took_mode main further c b mid e) ∙ preserved) h in
+        let rest = trailing mid (ap is_preserved (took_mode main further c b mid e) ∙ preserved) h in
         omega (arith, here, rest)
 
 entered_keeps : {S : Type 0} (mode : WhiteSpace) (b new : Block S) → in_mode mode b ≡ Some new

@@ -1,22 +1,22 @@
 -- What a block holds after each call.
-use Rattle.std.proofs.Common.{◌≡◌, ◌≢◌, ℕ, Bool, true, false, ◌&&◌, ◌==◌, List, [], ◌∷◌, ◌++◌, None, Some, map, length}
-use Rattle.std.proofs.Common.{sym, ap, ◌∙◌, refl, append_assoc, append-nil, arith, chars, String, Global}
+use Rattle.std.proofs.Common.{◌≡◌, ◌≢◌, ◌&&◌, ◌==◌, [], ◌∷◌, ◌++◌, ◌∙◌, Bool, Global, List, None, Some, String, ap}
+use Rattle.std.proofs.Common.{append-nil, append_assoc, arith, chars, false, length, map, refl, sym, true, ℕ}
 use Rattle.std.specs.Prelude.{Option, string_bytes, if◌then◌else◌}
 use Rattle.std.specs.Option.{option_map, option_and_then}
 use Rattle.std.proofs.lemmas.Bool.Decides.{nat_tests}
-use Rattle.tagged_lines.specs.Tagged.{Item}
+use Rattle.text_lines.specs.Tagged.{Item}
 use Rattle.text_pieces.specs.Cuts.{Lacks, IsCutAt}
 use Rattle.text_pieces.specs.Sources.{Source, letter, fragment, sourced, fragments, piece_sources, sources_of}
-use Rattle.preserved_text.specs.Preserved.{names_of}
+use Rattle.text_preserved.specs.Preserved.{names_of}
 use Rattle.text_pieces.specs.declared.piece.Piece.{Piece}
 use Rattle.text_pieces.specs.declared.piece.Piece.TheVariants.{Fragment}
-use Rattle.preserved_text.proofs.TrimLemmas.{sources-append, nil_length}
+use Rattle.text_preserved.proofs.TrimLemmas.{sources-append, nil_length}
 use Rattle.text_pieces.specs.Modes.{is_preserved, is_same_mode}
 use Rattle.text_pieces.specs.declared.white_space.WhiteSpace.{WhiteSpace}
 use Rattle.text_wrapping.specs.Lines.{lines_in, waiting_in}
-use Rattle.text_wrapping.specs.Blocks.{Block, padded, lines_behind, lines_or_empty, is_too_narrow, ended, line_ended}
-use Rattle.text_wrapping.specs.Blocks.{line_feed, with_letter, took, took_all, in_mode, with_mode, added}
-use Rattle.text_wrapping.specs.Blocks.{behind_sources, with_lines, with_source}
+use Rattle.text_wrapping.specs.Blocks.{Block, added, after_sources, ended, in_mode, is_too_narrow, line_ended}
+use Rattle.text_wrapping.specs.Blocks.{line_feed, lines_after, lines_or_empty, padded, took, took_all, with_letter}
+use Rattle.text_wrapping.specs.Blocks.{with_lines, with_mode, with_source}
 
 -- ---- texts that end nothing
 
@@ -45,7 +45,7 @@ lacking_letters mode (c ∷ cs) lacks = (
 )
 
 pub took_letters : {S : Type 0} (main further : S) (cs : List ℕ) (b : Block S) → AreLetters b.mode cs
-    → took_all main further cs b ≡ Some (behind_sources (sourced cs main further) b)
+    → took_all main further cs b ≡ Some (after_sources (sourced cs main further) b)
 took_letters main further [] b are = ap (λ s. Some (record b { source = s })) (sym (append-nil b.source))
 took_letters main further (c ∷ cs) b are =
     ap (λ t. option_and_then (took_all main further cs)
@@ -55,7 +55,7 @@ took_letters main further (c ∷ cs) b are =
     (append_assoc b.source (letter c main further ∷ []) (sourced cs main further))
 
 pub run_taken : {S : Type 0} (main further : S) (cs : List ℕ) (b new : Block S) → is_preserved b.mode ≡ false
-    → new ≡ behind_sources (sourced cs main further) b → took_all main further cs b ≡ Some new
+    → new ≡ after_sources (sourced cs main further) b → took_all main further cs b ≡ Some new
 run_taken main further cs b new normal run =
     took_letters main further cs b (normal_letters b.mode cs normal) ∙ ap Some (sym run)
 
@@ -65,11 +65,11 @@ pub same_mode : {S : Type 0} (mode : WhiteSpace) (b : Block S) → is_same_mode 
 same_mode mode b same = ap (λ t. if t then Some b else option_map (with_mode mode) (ended b)) same
 
 -- an empty text
-pub nothing_behind : {S : Type 0} (main further : S) (cs : List ℕ) (b : Block S) → cs ≡ []
-    → b ≡ behind_sources (sourced cs main further) b
-nothing_behind main further cs b none =
+pub nothing_after : {S : Type 0} (main further : S) (cs : List ℕ) (b : Block S) → cs ≡ []
+    → b ≡ after_sources (sourced cs main further) b
+nothing_after main further cs b none =
     ap (λ s. record b { source = s }) (sym (append-nil b.source))
-    ∙ ap (λ l. behind_sources (sourced l main further) b) (sym none)
+    ∙ ap (λ l. after_sources (sourced l main further) b) (sym none)
 
 -- ---- texts in parts
 
@@ -88,30 +88,30 @@ took_all-append main further (c ∷ front) back b =
 
 -- ---- source lines
 
-line_taken : {S : Type 0} (main further : S) (b mid : Block S) (text line behind : List ℕ) → is_preserved b.mode ≡ true
-    → IsCutAt 10 text line behind → mid ≡ behind_sources (sourced line main further) b
-    → took_all main further text b ≡ option_and_then (took_all main further behind) (line_ended mid)
-line_taken main further b mid text line behind preserved cut run =
-    ap (λ t. took_all main further t b) cut.whole ∙ took_all-append main further line (10 ∷ behind) b
-    ∙ ap (option_and_then (took_all main further (10 ∷ behind)))
+line_taken : {S : Type 0} (main further : S) (b mid : Block S) (text line trailing : List ℕ) → is_preserved b.mode ≡ true
+    → IsCutAt 10 text line trailing → mid ≡ after_sources (sourced line main further) b
+    → took_all main further text b ≡ option_and_then (took_all main further trailing) (line_ended mid)
+line_taken main further b mid text line trailing preserved cut run =
+    ap (λ t. took_all main further t b) cut.whole ∙ took_all-append main further line (10 ∷ trailing) b
+    ∙ ap (option_and_then (took_all main further (10 ∷ trailing)))
     (took_letters main further line b (lacking_letters b.mode line cut.lacks) ∙ ap Some (sym run))
-    ∙ ap (λ t. option_and_then (took_all main further behind)
+    ∙ ap (λ t. option_and_then (took_all main further trailing)
     (if t && (10 == line_feed) then line_ended mid else Some (with_letter main further 10 mid)))
     (ap (λ m. is_preserved m.mode) run ∙ preserved)
 
-pub lines_step : {S : Type 0} (main further : S) (b mid new : Block S) (text line behind : List ℕ)
-    → is_preserved b.mode ≡ true → IsCutAt 10 text line behind → mid ≡ behind_sources (sourced line main further) b
-    → line_ended mid ≡ Some new → took_all main further text b ≡ took_all main further behind new
-lines_step main further b mid new text line behind preserved cut run end =
-    line_taken main further b mid text line behind preserved cut run
-    ∙ ap (option_and_then (took_all main further behind)) end
+pub lines_step : {S : Type 0} (main further : S) (b mid new : Block S) (text line trailing : List ℕ)
+    → is_preserved b.mode ≡ true → IsCutAt 10 text line trailing → mid ≡ after_sources (sourced line main further) b
+    → line_ended mid ≡ Some new → took_all main further text b ≡ took_all main further trailing new
+lines_step main further b mid new text line trailing preserved cut run end =
+    line_taken main further b mid text line trailing preserved cut run
+    ∙ ap (option_and_then (took_all main further trailing)) end
 
-pub lines_refused : {S : Type 0} (main further : S) (b mid : Block S) (text line behind : List ℕ)
-    → is_preserved b.mode ≡ true → IsCutAt 10 text line behind → mid ≡ behind_sources (sourced line main further) b
+pub lines_refused : {S : Type 0} (main further : S) (b mid : Block S) (text line trailing : List ℕ)
+    → is_preserved b.mode ≡ true → IsCutAt 10 text line trailing → mid ≡ after_sources (sourced line main further) b
     → line_ended mid ≡ None → took_all main further text b ≡ None
-lines_refused main further b mid text line behind preserved cut run refused =
-    line_taken main further b mid text line behind preserved cut run
-    ∙ ap (option_and_then (took_all main further behind)) refused
+lines_refused main further b mid text line trailing preserved cut run refused =
+    line_taken main further b mid text line trailing preserved cut run
+    ∙ ap (option_and_then (took_all main further trailing)) refused
 
 mode_at : {S : Type 0} (narrow : Bool) (b mid new : Block S) → (if narrow then None else Some mid) ≡ Some new
     → mid.mode ≡ b.mode → new.mode ≡ b.mode
@@ -120,12 +120,12 @@ mode_at false b mid new is same = let here : mid ≡ new = cc in ap (λ x. x.mod
 
 pub line_ended_mode : {S : Type 0} (b new : Block S) → line_ended b ≡ Some new → new.mode ≡ b.mode
 line_ended_mode b new is =
-    mode_at (is_too_narrow b) b (lines_behind b (lines_or_empty (lines_in b.mode b.width b.source))) new is refl
+    mode_at (is_too_narrow b) b (lines_after b (lines_or_empty (lines_in b.mode b.width b.source))) new is refl
 
 -- the rest of a text has no line end
 pub rest_taken : {S : Type 0} (main further : S) (b new first : Block S) (text rest : List ℕ)
     → Lacks 10 rest → took_all main further rest b ≡ took_all main further text first
-    → new ≡ behind_sources (sourced rest main further) b → took_all main further text first ≡ Some new
+    → new ≡ after_sources (sourced rest main further) b → took_all main further text first ≡ Some new
 rest_taken main further b new first text rest lacks so_far run =
     sym so_far ∙ took_letters main further rest b (lacking_letters b.mode rest lacks) ∙ ap Some (sym run)
 
@@ -136,7 +136,7 @@ pub ended_by : {S : Type 0} (b mid new : Block S) (lines : List (List (Item S)))
     → is_too_narrow b ≡ false → lines ≡ lines_in b.mode b.width b.source → waiting ≡ waiting_in b.mode b.width b.source
     → mid ≡ with_lines lines b → new ≡ with_source (fragments waiting) mid → ended b ≡ Some new
 ended_by b mid new lines waiting room lines_are waiting_are put waits =
-    ap (λ t. if t then None else Some (lines_behind b (lines_in b.mode b.width b.source))) room
+    ap (λ t. if t then None else Some (lines_after b (lines_in b.mode b.width b.source))) room
     ∙ ap Some (sym (waits ∙ ap (with_source (fragments waiting)) (put ∙ ap (λ l. with_lines l b) lines_are)
     ∙ ap (λ w. with_source (fragments w) (with_lines (lines_in b.mode b.width b.source) b)) waiting_are))
 
@@ -146,18 +146,18 @@ pub line_ended_by : {S : Type 0} (b mid new : Block S) (laid lines : List (List 
     → mid ≡ with_lines lines b → new ≡ with_source (fragments waiting) mid → line_ended b ≡ Some new
 line_ended_by b mid new laid lines waiting room laid_are lines_are waiting_are put waits =
     let all = lines_or_empty (lines_in b.mode b.width b.source) in
-    ap (λ t. if t then None else Some (lines_behind b all)) room
+    ap (λ t. if t then None else Some (lines_after b all)) room
     ∙ ap Some (sym (waits ∙ ap (with_source (fragments waiting)) (put
     ∙ ap (λ l. with_lines l b) (lines_are ∙ ap lines_or_empty laid_are))
     ∙ ap (λ w. with_source (fragments w) (with_lines all b)) waiting_are))
 
 pub refused_text : {S : Type 0} (b : Block S) → is_too_narrow b ≡ true → ended b ≡ None
 refused_text b narrow =
-    ap (λ t. if t then None else Some (lines_behind b (lines_in b.mode b.width b.source))) narrow
+    ap (λ t. if t then None else Some (lines_after b (lines_in b.mode b.width b.source))) narrow
 
 pub refused_line : {S : Type 0} (b : Block S) → is_too_narrow b ≡ true → line_ended b ≡ None
 refused_line b narrow =
-    ap (λ t. if t then None else Some (lines_behind b (lines_or_empty (lines_in b.mode b.width b.source)))) narrow
+    ap (λ t. if t then None else Some (lines_after b (lines_or_empty (lines_in b.mode b.width b.source)))) narrow
 
 -- ---- lines that are filled
 
@@ -203,9 +203,9 @@ all_names seen all now rest none so_far =
 -- nothing is held yet
 pub nothing_held : {T S : Type 0} (seen : T → S) (b now : Block S) (pieces : List (Piece T)) (all left : List (List ℕ))
     → now ≡ record b { source = sources_of seen pieces } → pieces ≡ [] → left ≡ all
-    → behind_sources (fragments left) now ≡ with_source (fragments all) b
+    → after_sources (fragments left) now ≡ with_source (fragments all) b
 nothing_held seen b now pieces all left is none same =
-    ap (behind_sources (fragments left)) is
+    ap (after_sources (fragments left)) is
     ∙ ap (λ ps. record b { source = sources_of seen ps ++ fragments left }) none
     ∙ ap (λ l. with_source (fragments l) b) same
 
@@ -213,20 +213,20 @@ nothing_held seen b now pieces all left is none same =
 pub wait_more : {T S : Type 0} (seen : T → S) (now new end : Block S) (pieces : List (Piece T)) (name : String Global)
     (others : List (List ℕ)) → now.source ≡ sources_of seen pieces
     → new ≡ record now { source = sources_of seen (pieces ++ Fragment name ∷ []) }
-    → behind_sources (fragments (chars (string_bytes name) ∷ others)) now ≡ end
-    → behind_sources (fragments others) new ≡ end
+    → after_sources (fragments (chars (string_bytes name) ∷ others)) now ≡ end
+    → after_sources (fragments others) new ≡ end
 wait_more seen now new end pieces name others here step so_far =
-    ap (behind_sources (fragments others)) step
+    ap (after_sources (fragments others)) step
     ∙ ap (λ s. record now { source = s ++ fragments others }) (sources-append seen pieces (Fragment name ∷ []))
     ∙ ap (λ s. record now { source = s }) (append_assoc (sources_of seen pieces)
     (fragment (chars (string_bytes name)) ∷ []) (fragments others))
     ∙ ap (λ s. record now { source = s ++ fragments (chars (string_bytes name) ∷ others) }) (sym here) ∙ so_far
 
 pub wait_all : {S : Type 0} (now end : Block S) (left : List (List ℕ)) → left ≡ []
-    → behind_sources (fragments left) now ≡ end → now ≡ end
+    → after_sources (fragments left) now ≡ end → now ≡ end
 wait_all now end left none so_far =
     ap (λ s. record now { source = s }) (sym (append-nil now.source))
-    ∙ ap (λ l. behind_sources (fragments l) now) (sym none) ∙ so_far
+    ∙ ap (λ l. after_sources (fragments l) now) (sym none) ∙ so_far
 
 -- ---- a text in its mode
 
@@ -239,10 +239,10 @@ added_some : {S : Type 0} (mode : WhiteSpace) (cs : List ℕ) (main further : S)
 added_some mode [] main further b some = absurd (some refl)
 added_some mode (c ∷ cs) main further b some = refl
 
-pub added_behind : {S : Type 0} (mode : WhiteSpace) (cs : List ℕ) (main further : S) (b mid new : Block S)
+pub added_after : {S : Type 0} (mode : WhiteSpace) (cs : List ℕ) (main further : S) (b mid new : Block S)
     → (cs ≡ [] → ⊥) → in_mode mode b ≡ Some mid → took_all main further cs mid ≡ Some new
     → added mode cs main further b ≡ Some new
-added_behind mode cs main further b mid new some entered taken =
+added_after mode cs main further b mid new some entered taken =
     added_some mode cs main further b some ∙ ap (option_and_then (took_all main further cs)) entered ∙ taken
 
 pub added_refused : {S : Type 0} (mode : WhiteSpace) (cs : List ℕ) (main further : S) (b : Block S)

@@ -4,20 +4,20 @@ use Rattle.std.specs.Prelude.{fold, not, ◌&&◌, ◌||◌, ◌==◌, nat_lt, O
 use Rattle.std.specs.List.{list_any}
 use Rattle.std.specs.Option.{option_map, option_and_then}
 use Rattle.std.proofs.lemmas.List.{map-append}
-use Rattle.tagged_lines.specs.Tagged.{Item, character, line_columns}
+use Rattle.text_lines.specs.Tagged.{Item, character, line_columns}
 use Rattle.text_pieces.specs.Sources.{Source, letter, fragment, fragments, names_of}
 use Rattle.text_pieces.specs.Modes.{is_preserved, is_wrapped, is_same_mode}
 use Rattle.text_pieces.specs.declared.white_space.WhiteSpace.{WhiteSpace}
 use Rattle.text_pieces.proofs.RetaggedItems.{chosen_by, replicate_mapped, line_columns_retagged, names_retagged}
-use Rattle.preserved_text.specs.Preserved.{preserved_lines, preserved_waiting, is_too_wide}
-use Rattle.preserved_text.proofs.LayingRetagged.{lines_retagged, lines_wait_retagged, too_wide_retagged}
-use Rattle.wrapping_laws.specs.Riders.{normal_lines, normal_waiting, has_wide_text}
-use Rattle.wrapping_laws.proofs.NormalRetagged.{normal_retagged, waiting_retagged, wide_text_retagged}
+use Rattle.text_preserved.specs.Preserved.{preserved_lines, preserved_waiting, is_too_wide}
+use Rattle.text_preserved.proofs.LayingRetagged.{lines_retagged, lines_wait_retagged, too_wide_retagged}
+use Rattle.text_normal.specs.Riders.{normal_lines, normal_waiting, has_wide_text}
+use Rattle.text_normal_laws.proofs.NormalRetagged.{normal_retagged, waiting_retagged, wide_text_retagged}
 use Rattle.text_wrapping.specs.Lines.{lines_in, waiting_in, is_wide_in}
-use Rattle.text_wrapping.specs.Blocks.{Block, line_feed, padded, lines_behind, is_too_narrow, ended, lines_or_empty}
-use Rattle.text_wrapping.specs.Blocks.{line_ended, with_letter, took, took_all, with_mode, in_mode, added, marked_by}
-use Rattle.text_wrapping.specs.Blocks.{without_source, fragments_taken, lines_of, ended_lines, ends_in_columns, broken}
-use Rattle.text_wrapping.specs.Blocks.{is_visible, has_visible, has_columns}
+use Rattle.text_wrapping.specs.Blocks.{Block, added, broken, ended, ended_lines, ends_in_columns, fragments_taken}
+use Rattle.text_wrapping.specs.Blocks.{has_columns, has_visible, in_mode, is_too_narrow, is_visible, line_ended}
+use Rattle.text_wrapping.specs.Blocks.{line_feed, lines_after, lines_of, lines_or_empty, marked_by, padded, took}
+use Rattle.text_wrapping.specs.Blocks.{took_all, with_letter, with_mode, without_source}
 use Rattle.text_wrapping.specs.Retagged.{reitem, resource, reblock, reblocked}
 
 -- ---- options
@@ -86,9 +86,9 @@ fragments_retagged : {A B : Type 0} (f : A → B) (names : List (List ℕ)) → 
 fragments_retagged f [] = refl
 fragments_retagged f (name ∷ names) = ap (λ ss. fragment name ∷ ss) (fragments_retagged f names)
 
-lines_behind_retagged : {A B : Type 0} (f : A → B) (b : Block A) (lines : List (List (Item A)))
-    → lines_behind (reblock f b) (map (map (reitem f)) lines) ≡ reblock f (lines_behind b lines)
-lines_behind_retagged f b lines =
+lines_after_retagged : {A B : Type 0} (f : A → B) (b : Block A) (lines : List (List (Item A)))
+    → lines_after (reblock f b) (map (map (reitem f)) lines) ≡ reblock f (lines_after b lines)
+lines_after_retagged f b lines =
     ap (λ ls. made (reblock f b) ls (fragments (waiting_in b.mode b.width (map (resource f) b.source))))
     (ap (λ ls. map (map (reitem f)) b.lines ++ ls) (all_padded f b.width b.padding lines)
     ∙ sym (map-append (map (reitem f)) b.lines (map (padded b.width b.padding) lines)))
@@ -104,10 +104,10 @@ pub ended_retagged : {A B : Type 0} (f : A → B) (b : Block A) → ended (reblo
 ended_retagged f b =
     let lines = lines_in b.mode b.width b.source in
     chosen_by (option_map (reblock f)) (is_too_narrow b) (is_too_narrow (reblock f b)) None
-    (Some (lines_behind b lines)) None
-    (Some (lines_behind (reblock f b) (lines_in b.mode b.width (map (resource f) b.source)))) (narrow_retagged f b) refl
-    (ap (λ ls. Some (lines_behind (reblock f b) ls)) (lines_in_retagged f b.mode b.width b.source)
-    ∙ ap Some (lines_behind_retagged f b lines))
+    (Some (lines_after b lines)) None
+    (Some (lines_after (reblock f b) (lines_in b.mode b.width (map (resource f) b.source)))) (narrow_retagged f b) refl
+    (ap (λ ls. Some (lines_after (reblock f b) ls)) (lines_in_retagged f b.mode b.width b.source)
+    ∙ ap Some (lines_after_retagged f b lines))
 
 or_empty_retagged : {A B : Type 0} (f : A → B) (lines : List (List (Item A)))
     → lines_or_empty (map (map (reitem f)) lines) ≡ map (map (reitem f)) (lines_or_empty lines)
@@ -119,12 +119,12 @@ line_ended_retagged : {A B : Type 0} (f : A → B) (b : Block A) → line_ended 
 line_ended_retagged f b =
     let lines = lines_in b.mode b.width b.source in
     chosen_by (option_map (reblock f)) (is_too_narrow b) (is_too_narrow (reblock f b)) None
-    (Some (lines_behind b (lines_or_empty lines))) None
-    (Some (lines_behind (reblock f b) (lines_or_empty (lines_in b.mode b.width (map (resource f) b.source)))))
+    (Some (lines_after b (lines_or_empty lines))) None
+    (Some (lines_after (reblock f b) (lines_or_empty (lines_in b.mode b.width (map (resource f) b.source)))))
     (narrow_retagged f b) refl
-    (ap (λ ls. Some (lines_behind (reblock f b) (lines_or_empty ls))) (lines_in_retagged f b.mode b.width b.source)
-    ∙ ap (λ ls. Some (lines_behind (reblock f b) ls)) (or_empty_retagged f lines)
-    ∙ ap Some (lines_behind_retagged f b (lines_or_empty lines)))
+    (ap (λ ls. Some (lines_after (reblock f b) (lines_or_empty ls))) (lines_in_retagged f b.mode b.width b.source)
+    ∙ ap (λ ls. Some (lines_after (reblock f b) ls)) (or_empty_retagged f lines)
+    ∙ ap Some (lines_after_retagged f b (lines_or_empty lines)))
 
 -- ---- text that is added
 

@@ -1,19 +1,19 @@
 -- No line of a block passes its width.
-use Rattle.std.proofs.Common.{◌≡◌, ℕ, ◌≤◌, Bool, true, false, not, ◌&&◌, ◌==◌, List, [], ◌∷◌, None, Some, map, sym, ap}
-use Rattle.std.proofs.Common.{◌∙◌, refl, subst, arith}
+use Rattle.std.proofs.Common.{◌≡◌, ◌≤◌, ◌&&◌, ◌==◌, [], ◌∷◌, ◌∙◌, Bool, List, None, Some, ap, arith, false, map, not}
+use Rattle.std.proofs.Common.{refl, subst, sym, true, ℕ}
 use Rattle.std.specs.Prelude.{Option, All, if◌then◌else◌}
 use Rattle.std.specs.Option.{option_map, option_and_then}
 use Rattle.std.proofs.lemmas.List.Elements.{All-nil, All-cons, All-head, All-tail, All-append}
-use Rattle.tagged_lines.specs.Tagged.{Item, line_columns}
+use Rattle.text_lines.specs.Tagged.{Item, line_columns}
 use Rattle.text_pieces.specs.Sources.{Source}
 use Rattle.text_pieces.specs.Modes.{is_preserved, is_wrapped, is_same_mode}
-use Rattle.preserved_text.specs.Preserved.{preserved_lines, is_too_wide as is_wide_source}
+use Rattle.text_preserved.specs.Preserved.{preserved_lines, is_too_wide as is_wide_source}
 use Rattle.text_pieces.specs.declared.white_space.WhiteSpace.{WhiteSpace}
-use Rattle.wrapping_laws.specs.Riders.{normal_lines, has_wide_text}
+use Rattle.text_normal.specs.Riders.{normal_lines, has_wide_text}
 use Rattle.text_wrapping.specs.Lines.{lines_in, is_wide_in}
-use Rattle.text_wrapping.specs.Blocks.{Block, padded, lines_behind, lines_or_empty, is_too_narrow, ended, line_ended}
-use Rattle.text_wrapping.specs.Blocks.{line_feed, with_letter, took, took_all, with_mode, in_mode, added, lines_of}
-use Rattle.text_wrapping.specs.Blocks.{ended_lines}
+use Rattle.text_wrapping.specs.Blocks.{Block, added, ended, ended_lines, in_mode, is_too_narrow, line_ended, line_feed}
+use Rattle.text_wrapping.specs.Blocks.{lines_after, lines_of, lines_or_empty, padded, took, took_all, with_letter}
+use Rattle.text_wrapping.specs.Blocks.{with_mode}
 use Rattle.text_wrapping.specs.LawWords.{IsWithin}
 use Rattle.text_wrapping.proofs.BlockLaws.{filled_width, some_same}
 
@@ -59,9 +59,9 @@ or_empty_fits width (line ∷ lines) fit = fit
 
 -- ---- what ends
 
-behind_fits : {S : Type 0} (width : ℕ) (b : Block S) (lines : List (List (Item S))) → IsWithin width b
-    → AreFitting width lines → IsWithin width (lines_behind b lines)
-behind_fits {S = S} width b lines h fit =
+after_fits : {S : Type 0} (width : ℕ) (b : Block S) (lines : List (List (Item S))) → IsWithin width b
+    → AreFitting width lines → IsWithin width (lines_after b lines)
+after_fits {S = S} width b lines h fit =
     record {
       same_width = h.same_width;
       no_overflow = h.no_overflow;
@@ -91,14 +91,14 @@ held_fits laws width b h room =
 pub ended_within : {S : Type 0} (laws : FitLaws S) (width : ℕ) (b new : Block S) → IsWithin width b
     → ended b ≡ Some new → IsWithin width new
 ended_within laws width b new h is =
-    unless_narrow width (is_too_narrow b) (lines_behind b (lines_in b.mode b.width b.source)) new is
-    (λ room. behind_fits width b (lines_in b.mode b.width b.source) h (held_fits laws width b h room))
+    unless_narrow width (is_too_narrow b) (lines_after b (lines_in b.mode b.width b.source)) new is
+    (λ room. after_fits width b (lines_in b.mode b.width b.source) h (held_fits laws width b h room))
 
 line_within : {S : Type 0} (laws : FitLaws S) (width : ℕ) (b new : Block S) → IsWithin width b
     → line_ended b ≡ Some new → IsWithin width new
 line_within laws width b new h is =
-    unless_narrow width (is_too_narrow b) (lines_behind b (lines_or_empty (lines_in b.mode b.width b.source))) new is
-    (λ room. behind_fits width b (lines_or_empty (lines_in b.mode b.width b.source)) h
+    unless_narrow width (is_too_narrow b) (lines_after b (lines_or_empty (lines_in b.mode b.width b.source))) new is
+    (λ room. after_fits width b (lines_or_empty (lines_in b.mode b.width b.source)) h
     (or_empty_fits width (lines_in b.mode b.width b.source) (held_fits laws width b h room)))
 
 -- ---- what is taken

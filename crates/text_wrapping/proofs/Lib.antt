@@ -1,11 +1,10 @@
+pub mod BlockLaws
 pub mod BlockLemmas
+pub mod BlockRetagged
+pub mod BlockWidths
+pub mod CopyLemmas
 pub mod NormalBlocks
 pub mod NormalPadding
-pub mod BlockRetagged
-pub mod BlockLaws
-pub mod BlockWidths
-pub mod ShowingLemmas
-pub mod CopyLemmas
 pub mod NothingLemmas
+pub mod ShowingLemmas
 mod WholeLines
-pub use Rattle.wrapping_laws.proofs.WordLemmas

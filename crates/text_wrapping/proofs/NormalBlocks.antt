@@ -1,15 +1,15 @@
 -- Blocks of normal text: what they take, and their lines.
-use Rattle.std.proofs.Common.{◌≡◌, ℕ, Bool, true, false, not, ◌&&◌, ◌||◌, List, [], ◌∷◌, ◌++◌, None, Some, map, sym, ap}
-use Rattle.std.proofs.Common.{◌∙◌, refl, subst, append_assoc, append-nil}
+use Rattle.std.proofs.Common.{◌≡◌, ◌&&◌, ◌||◌, [], ◌∷◌, ◌++◌, ◌∙◌, Bool, List, None, Some, ap, append-nil, append_assoc}
+use Rattle.std.proofs.Common.{false, map, not, refl, subst, sym, true, ℕ}
 use Rattle.std.specs.Prelude.{if◌then◌else◌}
 use Rattle.std.specs.Option.{option_map}
-use Rattle.tagged_lines.specs.Tagged.{Item}
+use Rattle.text_lines.specs.Tagged.{Item}
 use Rattle.text_pieces.specs.Sources.{Source, letter, sourced}
 use Rattle.text_pieces.specs.declared.white_space.WhiteSpace.TheVariants.{Normal}
-use Rattle.wrapping_laws.specs.Layout.{AreLinesOf, NeverFits}
-use Rattle.wrapping_laws.specs.Riders.{normal_lines, has_wide_text}
-use Rattle.wrapping_laws.specs.Letters.{letters_of}
-use Rattle.text_wrapping.specs.Blocks.{Block, padded, lines_behind, lines_of, took_all, added, ended_lines}
+use Rattle.text_normal.specs.Layout.{AreLinesOf, NeverFits}
+use Rattle.text_normal.specs.Riders.{normal_lines, has_wide_text}
+use Rattle.text_normal.specs.Letters.{letters_of}
+use Rattle.text_wrapping.specs.Blocks.{Block, padded, lines_after, lines_of, took_all, added, ended_lines}
 use Rattle.text_wrapping.specs.NormalBlocks.{normal_block}
 
 -- ---- what is taken
@@ -67,7 +67,7 @@ pub block_lines_are : {S : Type 0} (width : ℕ) (overflow : Bool) (source : Lis
     → AreLinesOf width overflow (letters_of source) lines
 block_lines_are width overflow source lines law e =
     let ends = ended_at overflow (has_wide_text width source)
-    (lines_behind (normal_block width overflow source) (normal_lines width source)) lines e in
+    (lines_after (normal_block width overflow source) (normal_lines width source)) lines e in
     subst (AreLinesOf width overflow (letters_of source))
     (sym (not_padded width (normal_lines width source)) ∙ ends.1)
     (law ends.0)
@@ -78,5 +78,5 @@ pub narrow_block : {S : Type 0} (width : ℕ) (overflow : Bool) (source : List (
     → (overflow ≡ false) × NeverFits width false (letters_of source)
 narrow_block width overflow source law e =
     let refused = refused_at overflow (has_wide_text width source)
-    (lines_behind (normal_block width overflow source) (normal_lines width source)) e in
+    (lines_after (normal_block width overflow source) (normal_lines width source)) e in
     (refused.0, law refused.1)

@@ -1,10 +1,10 @@
 -- A loop that changes each element of a list in turn.
-use Rattle.std.proofs.Common.{◌≡◌, ℕ, ◌+◌, ◌<◌, ◌≤◌, List, [], ◌∷◌, ◌++◌, map, take, drop, set, length, get_or, sym, ap}
-use Rattle.std.proofs.Common.{◌∙◌, subst, append_assoc, arith}
+use Rattle.std.proofs.Common.{◌≡◌, ◌+◌, ◌<◌, ◌≤◌, [], ◌∷◌, ◌++◌, ◌∙◌, List, ap, append_assoc, arith, drop, get_or}
+use Rattle.std.proofs.Common.{length, map, set, subst, sym, take, ℕ}
 use Rattle.std.specs.Prelude.{All}
 use Rattle.std.proofs.lemmas.List.Elements.{All-set, All-get_or}
-use Rattle.std.proofs.lemmas.List.{map_more, drop_more, get_or_at, set_at, length-map, length-take-le, append-nil}
-use Rattle.std.proofs.lemmas.List.{take_all, take_at, drop_all, map-set, get_or-map}
+use Rattle.std.proofs.lemmas.List.{append-nil, drop_all, drop_more, get_or-map, get_or_at, length-map, length-take-le}
+use Rattle.std.proofs.lemmas.List.{map-set, map_more, set_at, take_all, take_at}
 
 -- the first i elements are changed
 pub changed_more : {X : Type 0} (change : X → X) (start now new : List X) (i : ℕ) (x y : X) → i < length start

@@ -1,12 +1,12 @@
 -- A block that holds no text has ended.
 use Rattle.std.proofs.Common.{◌≡◌, ℕ, Bool, true, false, List, [], ap, sym, ◌∙◌, append-nil}
 use Rattle.std.specs.Prelude.{Option, Some}
-use Rattle.tagged_lines.specs.Tagged.{Item}
+use Rattle.text_lines.specs.Tagged.{Item}
 use Rattle.text_pieces.specs.Sources.{Source}
 use Rattle.text_pieces.specs.declared.white_space.WhiteSpace.{WhiteSpace}
 use Rattle.text_pieces.specs.declared.white_space.WhiteSpace.TheVariants.{Normal, Pre, PreWrap}
-use Rattle.preserved_text.specs.Preserved.{preserved_lines, preserved_waiting, is_too_wide}
-use Rattle.wrapping_laws.specs.Riders.{normal_lines, normal_waiting}
+use Rattle.text_preserved.specs.Preserved.{preserved_lines, preserved_waiting, is_too_wide}
+use Rattle.text_normal.specs.Riders.{normal_lines, normal_waiting}
 use Rattle.text_wrapping.specs.Blocks.{Block, ended}
 
 abbrev block : {S : Type 0} → WhiteSpace → Bool → ℕ → Option S → List (List (Item S)) → List (Source S) → Block S

@@ -11,12 +11,12 @@ either true a b r e = refl
 either false a b r e = e
 
 -- what is after a text shows too
-pub shows_behind : {S : Type 0} (front back : List (Source S))
+pub shows_after : {S : Type 0} (front back : List (Source S))
     → has_visible (front ++ back) ≡ (has_visible front || has_visible back)
-shows_behind [] back = refl
-shows_behind (letter c main further ∷ front) back =
-    either (is_visible c) (has_visible front) (has_visible back) (has_visible (front ++ back)) (shows_behind front back)
-shows_behind (fragment name ∷ front) back = shows_behind front back
+shows_after [] back = refl
+shows_after (letter c main further ∷ front) back =
+    either (is_visible c) (has_visible front) (has_visible back) (has_visible (front ++ back)) (shows_after front back)
+shows_after (fragment name ∷ front) back = shows_after front back
 
 pub shows_text : {S : Type 0} (cs : List ℕ) (main further : S)
     → list_any is_visible cs ≡ has_visible (sourced cs main further)
@@ -36,12 +36,12 @@ pub hidden_front : {T S : Type 0} (seen : T → S) (piece : Piece T) (rest : Lis
     → has_visible (piece_sources seen piece) ≡ false
     → has_visible (sources_of seen (piece ∷ rest)) ≡ has_visible (sources_of seen rest)
 hidden_front seen piece rest e =
-    shows_behind (piece_sources seen piece) (sources_of seen rest)
+    shows_after (piece_sources seen piece) (sources_of seen rest)
     ∙ hides (has_visible (piece_sources seen piece)) (has_visible (sources_of seen rest)) e
 
 -- a piece that shows something
 pub shown_front : {T S : Type 0} (seen : T → S) (piece : Piece T) (rest : List (Piece T))
     → has_visible (piece_sources seen piece) ≡ true → has_visible (sources_of seen (piece ∷ rest)) ≡ true
 shown_front seen piece rest e =
-    shows_behind (piece_sources seen piece) (sources_of seen rest)
+    shows_after (piece_sources seen piece) (sources_of seen rest)
     ∙ shown (has_visible (piece_sources seen piece)) (has_visible (sources_of seen rest)) e

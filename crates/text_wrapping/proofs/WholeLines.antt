@@ -1,13 +1,13 @@
 -- A source line that is one line, in a block that holds no text.
-use Rattle.std.proofs.Common.{◌≡◌, ℕ, Bool, true, false, List, [], ◌∷◌, ◌++◌, None, Some, refl, sym, ap, ◌∙◌}
+use Rattle.std.proofs.Common.{◌≡◌, Bool, true, false, List, [], ◌∷◌, ◌++◌, Some, refl, sym, ap, ◌∙◌}
 use Rattle.std.specs.Prelude.{not, ◌&&◌, if◌then◌else◌}
-use Rattle.tagged_lines.specs.Tagged.{Item}
+use Rattle.text_lines.specs.Tagged.{Item}
 use Rattle.text_pieces.specs.Modes.{is_preserved, is_wrapped}
 use Rattle.text_pieces.specs.Sources.{Source}
-use Rattle.preserved_text.specs.Preserved.{preserved_lines, preserved_waiting, is_too_wide}
-use Rattle.preserved_text.specs.PlainLines.{IsOnlyLine}
-use Rattle.wrapping_laws.specs.Riders.{normal_lines, normal_waiting, has_wide_text}
-use Rattle.text_wrapping.specs.Blocks.{Block, behind_sources, with_lines, with_source, line_ended, is_too_narrow}
+use Rattle.text_preserved.specs.Preserved.{preserved_lines, preserved_waiting, is_too_wide}
+use Rattle.text_preserved.specs.PlainLines.{IsOnlyLine}
+use Rattle.text_normal.specs.Riders.{normal_lines, normal_waiting, has_wide_text}
+use Rattle.text_wrapping.specs.Blocks.{Block, after_sources, with_lines, with_source, line_ended, is_too_narrow}
 use Rattle.text_wrapping.specs.Lines.{lines_in, waiting_in, is_wide_in}
 use Rattle.text_wrapping.proofs.BlockLemmas.{line_ended_by}
 
@@ -17,7 +17,7 @@ and_false false b e = refl
 
 pub whole_ended : {S : Type 0} (b : Block S) (source : List (Source S)) (line : List (Item S)) → b.source ≡ []
     → is_preserved b.mode ≡ true → IsOnlyLine b.width (is_wrapped b.mode) source line
-    → line_ended (behind_sources source b) ≡ Some (with_lines (line ∷ []) b)
+    → line_ended (after_sources source b) ≡ Some (with_lines (line ∷ []) b)
 whole_ended {S = S} b source line none preserved only =
     let w = b.width in
     let wraps = is_wrapped b.mode in

@@ -1,12 +1,12 @@
 -- Blocks of text: what a block holds, and what each call makes of it.
-use Rattle.std.specs.Prelude.{ℕ, ◌-◌, ◌==◌, nat_lt, Bool, false, not, ◌&&◌, ◌||◌, List, [], ◌∷◌, ◌++◌, Option, None}
-use Rattle.std.specs.Prelude.{Some, All, map, fold, replicate, if◌then◌else◌}
+use Rattle.std.specs.Prelude.{◌-◌, ◌==◌, ◌&&◌, ◌||◌, [], ◌∷◌, ◌++◌, if◌then◌else◌, All, Bool, List, None, Option, Some}
+use Rattle.std.specs.Prelude.{false, fold, map, nat_lt, not, replicate, ℕ}
 use Rattle.std.specs.List.{list_any}
 use Rattle.std.specs.Option.{option_map, option_and_then}
-use Rattle.tagged_lines.specs.Tagged.{Item, character, line_items, line_columns, IsJoined}
-use Rattle.tagged_lines.specs.Columns.{width_of}
+use Rattle.text_lines.specs.Tagged.{Item, character, line_items, line_columns, IsJoined}
+use Rattle.text_lines.specs.Columns.{width_of}
 use Rattle.text_pieces.specs.Sources.{Source, letter, fragment, fragments, sources_of, is_white_space}
-use Rattle.preserved_text.specs.Preserved.{names_of}
+use Rattle.text_preserved.specs.Preserved.{names_of}
 use Rattle.text_pieces.specs.Modes.{is_preserved, is_same_mode}
 use Rattle.text_pieces.specs.declared.white_space.WhiteSpace.{WhiteSpace}
 use Rattle.text_pieces.specs.declared.white_space.WhiteSpace.TheVariants.{Normal}
@@ -43,8 +43,8 @@ empty_block width overflow padding = record {
   source = [];
 }
 
-abbrev pub lines_behind : {S : Type 0} → Block S → List (List (Item S)) → Block S
-lines_behind b lines = record b {
+abbrev pub lines_after : {S : Type 0} → Block S → List (List (Item S)) → Block S
+lines_after b lines = record b {
   lines = b.lines ++ map (padded b.width b.padding) lines;
   source = fragments (waiting_in b.mode b.width b.source);
 }
@@ -55,7 +55,7 @@ is_too_narrow b = not b.overflow && is_wide_in b.mode b.width b.source
 
 -- the text so far ends; markers after its last word wait for what comes
 abbrev pub ended : {S : Type 0} → Block S → Option (Block S)
-ended b = if is_too_narrow b then None else Some (lines_behind b (lines_in b.mode b.width b.source))
+ended b = if is_too_narrow b then None else Some (lines_after b (lines_in b.mode b.width b.source))
 
 -- an ended source line of which nothing is shown is an empty line
 abbrev pub lines_or_empty : {A : Type 0} → List (List A) → List (List A)
@@ -64,7 +64,7 @@ lines_or_empty (line ∷ lines) = line ∷ lines
 
 abbrev pub line_ended : {S : Type 0} → Block S → Option (Block S)
 line_ended b =
-    if is_too_narrow b then None else Some (lines_behind b (lines_or_empty (lines_in b.mode b.width b.source)))
+    if is_too_narrow b then None else Some (lines_after b (lines_or_empty (lines_in b.mode b.width b.source)))
 
 abbrev pub with_letter : {S : Type 0} → S → S → ℕ → Block S → Block S
 with_letter main further c b = record b { source = b.source ++ letter c main further ∷ [] }
@@ -99,8 +99,8 @@ with_lines lines b = record b { lines = b.lines ++ map (padded b.width b.padding
 abbrev pub with_source : {S : Type 0} → List (Source S) → Block S → Block S
 with_source source b = record b { source = source }
 
-abbrev pub behind_sources : {S : Type 0} → List (Source S) → Block S → Block S
-behind_sources sources b = record b { source = b.source ++ sources }
+abbrev pub after_sources : {S : Type 0} → List (Source S) → Block S → Block S
+after_sources sources b = record b { source = b.source ++ sources }
 
 -- what contracts see of a block
 abbrev pub padding_of : {T S : Type 0} → (T → S) → TextBlock T → Option S

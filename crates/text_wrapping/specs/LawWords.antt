@@ -1,6 +1,6 @@
 -- Words of the laws on blocks.
 use Rattle.std.specs.Prelude.{◌≡◌, ℕ, ◌≤◌, All, false, ◌+◌, ◌==◌, List, [], ◌∷◌, if◌then◌else◌}
-use Rattle.tagged_lines.specs.Tagged.{line_columns}
+use Rattle.text_lines.specs.Tagged.{line_columns}
 use Rattle.text_wrapping.specs.Blocks.{Block, line_feed}
 
 -- how many LF a text has

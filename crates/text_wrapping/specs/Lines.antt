@@ -1,11 +1,11 @@
 -- The lines of a text in each mode of white space.
 use Rattle.std.specs.Prelude.{ℕ, Bool, List, if◌then◌else◌}
-use Rattle.tagged_lines.specs.Tagged.{Item}
+use Rattle.text_lines.specs.Tagged.{Item}
 use Rattle.text_pieces.specs.Sources.{Source}
 use Rattle.text_pieces.specs.Modes.{is_preserved, is_wrapped}
-use Rattle.preserved_text.specs.Preserved.{preserved_lines, preserved_waiting, is_too_wide as is_wide_source}
+use Rattle.text_preserved.specs.Preserved.{preserved_lines, preserved_waiting, is_too_wide as is_wide_source}
 use Rattle.text_pieces.specs.declared.white_space.WhiteSpace.{WhiteSpace}
-use Rattle.wrapping_laws.specs.Riders.{normal_lines, normal_waiting, has_wide_text}
+use Rattle.text_normal.specs.Riders.{normal_lines, normal_waiting, has_wide_text}
 
 -- the lines of a text, or of a source line where white space is preserved
 abbrev pub lines_in : {S : Type 0} → WhiteSpace → ℕ → List (Source S) → List (List (Item S))

@@ -1,12 +1,12 @@
 //! Blocks of text.
-ghost use Rattle.std.specs.Prelude.{◌≡◌, ◌⊎◌, true, false, None, Some, map, chars, is_err, All, IfOk, IfErr, OnOk};
-ghost use Rattle.std.specs.Prelude.{if◌then◌else◌};
+ghost use Rattle.std.specs.Prelude.{◌≡◌, ◌⊎◌, if◌then◌else◌, All, IfErr, IfOk, None, OnOk, Some, chars, false, is_err};
+ghost use Rattle.std.specs.Prelude.{map, true};
 ghost use Rattle.text_pieces.specs.Sources.{names};
-ghost use Rattle.tagged_lines.specs.Tagged.{line_items, IsJoined};
+ghost use Rattle.text_lines.specs.Tagged.{line_items, IsJoined};
 
 use crate::text_block::TextBlock;
 use std::alloc::{AllocError, Global};
-use tagged_lines::{EqualCopy, TaggedLine};
+use text_lines::{EqualCopy, TaggedLine};
 use text_pieces::{BlockError, WhiteSpace};
 
 /// Text that is wrapped into lines of at most `width` columns, or preserved, by modes of white space.
@@ -17,14 +17,9 @@ pub struct WrappedBlock<T> {
 }
 
 impl<T: EqualCopy + Drop> WrappedBlock<T> {
-    ghost use Rattle.text_wrapping.specs.Blocks.{block_of, has_failed, empty_block, added, ended_lines};
-    ghost use Rattle.text_wrapping.specs.Blocks.{fragments_taken, marked_by, broken, has_columns, HasJoinedLines};
-    ghost use Rattle.text_wrapping.specs.Blocks.{block_of, has_failed, empty_block, added, took_all, in_mode, ended};
-    ghost use Rattle.text_wrapping.specs.Blocks.{line_ended, ended_lines, fragments_taken, behind_sources, with_lines};
-    ghost use Rattle.text_wrapping.specs.Blocks.{with_source, marked_by, padded, padding_of, is_too_narrow, broken};
-    ghost use Rattle.text_wrapping.specs.Blocks.{has_columns, HasJoinedLines};
-    ghost use Rattle.text_wrapping.specs.Lines.{lines_in, waiting_in};
-    ghost use Rattle.text_pieces.specs.Sources.{sourced, sources_of, fragments, names};
+    ghost use Rattle.text_wrapping.specs.Blocks.{HasJoinedLines, added, block_of, broken, empty_block, ended_lines};
+    ghost use Rattle.text_wrapping.specs.Blocks.{fragments_taken, has_columns, has_failed, marked_by};
+    ghost use Rattle.text_pieces.specs.Sources.{names};
 
     /// An empty block of lines of at most `width` columns. With `pad_blocks` each line is filled to the
     /// width with spaces tagged `default_tag`; with `allow_overflow` a character wider than the width

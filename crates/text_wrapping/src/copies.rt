@@ -1,10 +1,10 @@
 //! Copies of lines and of pieces.
 ghost use Rattle.std.specs.Prelude.{◌≡◌, map, All, IfOk};
-ghost use Rattle.tagged_lines.specs.Tagged.{line_items, IsJoined};
+ghost use Rattle.text_lines.specs.Tagged.{line_items, IsJoined};
 ghost use Rattle.text_pieces.specs.Sources.{sources_of};
 
 use std::alloc::{AllocError, Global};
-use tagged_lines::{EqualCopy, TaggedLine};
+use text_lines::{EqualCopy, TaggedLine};
 use text_pieces::Piece;
 
 /// Equal lines.

@@ -1,24 +1,25 @@
 //! Laws of blocks and their lines: each is the contract of a function that does nothing.
-ghost use Rattle.std.specs.Prelude.{◌≡◌, ℕ, ◌+◌, ◌≤◌, All, Bool, true, false, List, [], ◌++◌, length, Option, None};
-ghost use Rattle.std.specs.Prelude.{Some};
+ghost use Rattle.std.specs.Prelude.{◌≡◌, ◌+◌, ◌≤◌, [], ◌++◌, All, Bool, List, None, Option, Some, false, length, map};
+ghost use Rattle.std.specs.Prelude.{true, ℕ};
 ghost use Rattle.std.specs.Option.{option_and_then, option_map};
 ghost use Rattle.text_pieces.specs.Modes.{is_preserved};
 ghost use Rattle.text_pieces.specs.Sources.{Source, sourced};
-ghost use Rattle.tagged_lines.specs.Tagged.{Item, line_columns};
-ghost use Rattle.wrapping_laws.specs.Layout.{AreLinesOf, NeverFits};
-ghost use Rattle.wrapping_laws.specs.Letters.{letters_of, has_marker};
-ghost use Rattle.text_wrapping.specs.Blocks.{Block, empty_block, added, ended, ended_lines, marked_by, padded};
+ghost use Rattle.text_lines.specs.Tagged.{Item, line_columns};
+ghost use Rattle.text_normal.specs.Layout.{AreLinesOf, NeverFits};
+ghost use Rattle.text_normal.specs.Letters.{letters_of, has_marker};
+ghost use Rattle.text_wrapping.specs.Blocks.{Block, added, broken, empty_block, ended, ended_lines, fragments_taken};
+ghost use Rattle.text_wrapping.specs.Blocks.{has_columns, marked_by, padded};
 ghost use Rattle.text_wrapping.specs.LawWords.{line_ends, IsWithin};
 ghost use Rattle.text_pieces.specs.declared.white_space.WhiteSpace.{WhiteSpace as SeenMode};
 ghost use Rattle.text_wrapping.specs.NormalBlocks.{normal_block};
-ghost use Rattle.text_wrapping.specs.Blocks.{fragments_taken, broken, has_columns};
 ghost use Rattle.text_wrapping.specs.Retagged.{reitem, reblock, reblocked};
-ghost use Rattle.std.specs.Prelude.{map};
 
-use preserved_text::preserved_lines_keep_the_width;
-use tagged_lines::EqualCopy;
+use text_lines::EqualCopy;
+use text_normal_laws::{
+    normal_lines_are_fullest, normal_lines_keep_the_width, wide_text_never_fits,
+};
 use text_pieces::WhiteSpace;
-use wrapping_laws::{normal_lines_are_fullest, normal_lines_keep_the_width, wide_text_never_fits};
+use text_preserved::preserved_lines_keep_the_width;
 
 /// A block of normal text goes on after what it holds; an empty block is one without text.
 pub fn normal_text_is_kept<T: EqualCopy>()

@@ -40,17 +40,17 @@
 //!   text without markers are those of its fullest legal layout; where it has none, no text that holds its letters
 //!   has one; texts that are added one after another are one text
 //!
-//! `wrapped_lines` (wrapped_texts) says of a list of tagged pieces that its lines are their fullest legal layout,
+//! `wrapped_lines` (test_wrapped) says of a list of tagged pieces that its lines are their fullest legal layout,
 //! with no premise on a block's state; each line is within the width where overflow is off. The program does not
 //! call it.
 //!
 //! `rt plant` ran on the crates when text_pieces was a part of preserved_text: of that 40 wrong bodies are refused,
 //! and two that wrote no text of an error were let through, which clauses refuse since; of text_wrapping 43 are
-//! refused and of normal_text 9, and none is let through. Since characters are taken all at once it ran again on
+//! refused and of text_normal 9, and none is let through. Since characters are taken all at once it ran again on
 //! text_pieces (25 refused, none let through) and on what is new in preserved_text: 85 are refused, and eight are
 //! let through that are right: they take no characters at once, or fewer (`read_front`, `read_word`, `read_body`
 //! and `read_words` that leave the text, `begins_solid` that says no, `fitting_front` of width 0), so that each is
-//! laid by itself. Since whole lines are laid at once it ran on functions of preserved_text whose names have `line`
+//! laid by itself. Since whole lines are laid at once it ran on functions of text_preserved whose names have `line`
 //! in them, for three minutes (96 bodies were not reached): 37 are refused, and six are let through that are right,
 //! since they find no whole line (`lay_line` that gives none and the four that it stands on) or add no front, so
 //! that all is laid as before.
@@ -71,15 +71,4 @@ pub use laws::{
     text_may_be_cut_anywhere,
 };
 pub use padding::pad;
-pub use preserved_text::{
-    a_line_that_fits_is_itself, preserved_lines_heed_no_tags, preserved_lines_keep_markers,
-    preserved_lines_keep_the_width, preserved_lines_show_each_character,
-};
 pub use text_block::TextBlock;
-pub use text_pieces::{BlockError, TooNarrow, WhiteSpace};
-pub use wrapping_laws::{
-    fewest_lines, letters_of_texts, lines_keep_the_width, markers_change_no_line,
-    normal_lines_are_fullest, normal_lines_heed_no_tags, normal_lines_keep_markers,
-    normal_lines_keep_the_width, normal_lines_show_each_character, one_fullest_layout,
-    wide_text_never_fits,
-};

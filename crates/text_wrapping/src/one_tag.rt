@@ -4,7 +4,7 @@ ghost use Rattle.text_pieces.specs.Sources.{sourced, sources_of, text_sources, w
 ghost use Rattle.text_pieces.specs.Joins.{HasTags, EndsWithTags, Extends};
 
 use std::alloc::{AllocError, Global};
-use tagged_lines::{EqualCopy, roomy_copy};
+use text_lines::{EqualCopy, roomy_copy};
 use text_pieces::{Piece, TextPiece};
 
 /// Adds characters with that tag, where a preserved line was wrapped too, at the end; they join the last piece, where

@@ -1,10 +1,10 @@
 //! Lines that are filled with spaces.
 ghost use Rattle.std.specs.Prelude.{◌≡◌, Some, map, All, IfOk, OnOk};
-ghost use Rattle.tagged_lines.specs.Tagged.{line_items, IsJoined};
+ghost use Rattle.text_lines.specs.Tagged.{line_items, IsJoined};
 ghost use Rattle.text_wrapping.specs.Blocks.{padded};
 
 use std::alloc::AllocError;
-use tagged_lines::{EqualCopy, TaggedLine};
+use text_lines::{EqualCopy, TaggedLine};
 
 /// Fills each line with spaces up to the width.
 pub(crate) fn pad_lines<T: EqualCopy + Drop>(

@@ -1,11 +1,11 @@
 //! What is seen of texts and lines.
 ghost use Rattle.std.specs.Prelude.{◌≡◌, nat_lt, map, chars};
 ghost use Rattle.std.specs.List.{list_any};
-ghost use Rattle.tagged_lines.specs.Tagged.{line_items, line_columns};
+ghost use Rattle.text_lines.specs.Tagged.{line_items, line_columns};
 ghost use Rattle.text_pieces.specs.Sources.{sources_of, piece_sources};
 ghost use Rattle.text_wrapping.specs.Blocks.{ends_in_columns, is_visible, has_visible};
 
-use tagged_lines::{EqualCopy, TaggedLine};
+use text_lines::{EqualCopy, TaggedLine};
 use text_pieces::{Piece, is_white_space, width_of};
 
 /// Whether the last line has columns.

@@ -1,21 +1,21 @@
 //! Blocks of text of which no call was refused.
-ghost use Rattle.std.specs.Prelude.{◌≡◌, ◌⊎◌, ◌++◌, [], true, false, None, Some, map, chars, All, IsTrue, IfOk, IfErr};
-ghost use Rattle.std.specs.Prelude.{◌∷◌, IfSome, OnOk, if◌then◌else◌};
+ghost use Rattle.std.specs.Prelude.{◌≡◌, ◌⊎◌, ◌++◌, [], ◌∷◌, if◌then◌else◌, All, IfErr, IfOk, IfSome, IsTrue, None};
+ghost use Rattle.std.specs.Prelude.{OnOk, Some, chars, false, map, true};
 ghost use Rattle.text_pieces.specs.Sources.{sources_of, piece_sources, names};
-ghost use Rattle.preserved_text.specs.Preserved.{names_of};
+ghost use Rattle.text_preserved.specs.Preserved.{names_of};
 ghost use Rattle.text_pieces.specs.Modes.{is_preserved, is_same_mode};
 ghost use Rattle.text_wrapping.specs.Blocks.{lines_or_empty};
-ghost use Rattle.tagged_lines.specs.Tagged.{line_items, IsJoined};
+ghost use Rattle.text_lines.specs.Tagged.{line_items, IsJoined};
 
 use crate::copies::{clone_lines, clone_pieces};
 use crate::one_tag::push_tagged;
 use crate::padding::pad_lines;
 use crate::showing::{ends_in_columns, has_visible, have_columns};
-use preserved_text::{lay_line, lay_preserved, take_line};
 use std::alloc::{AllocError, Global};
-use tagged_lines::{EqualCopy, TaggedLine};
+use text_lines::{EqualCopy, TaggedLine};
+use text_normal::{lay_normal, lay_owned};
 use text_pieces::{BlockError, LaidText, Piece, WhiteSpace, cut_at, push_text};
-use wrapping_laws::{lay_normal, lay_owned};
+use text_preserved::{lay_line, lay_preserved, take_line};
 
 /// A `WrappedBlock` that keeps no note of refusals: for who lets it go once a call was refused.
 #[derive(Drop)]
@@ -32,18 +32,12 @@ pub struct TextBlock<T> {
 }
 
 impl<T: EqualCopy + Drop> TextBlock<T> {
-    ghost use Rattle.text_wrapping.specs.Blocks.{text_of, empty_block, added, took_all, in_mode, ended, line_ended};
-    ghost use Rattle.text_wrapping.specs.Blocks.{ended_lines, fragments_taken, behind_sources, with_lines, with_source};
-    ghost use Rattle.text_wrapping.specs.Blocks.{marked_by, padded, padding_of, is_too_narrow, broken, has_columns};
-    ghost use Rattle.text_wrapping.specs.Blocks.{AreJoinedLines};
+    ghost use Rattle.text_wrapping.specs.Blocks.{AreJoinedLines, added, after_sources, broken, empty_block, ended};
+    ghost use Rattle.text_wrapping.specs.Blocks.{ended_lines, fragments_taken, has_columns, in_mode, is_too_narrow};
+    ghost use Rattle.text_wrapping.specs.Blocks.{line_ended, marked_by, padded, padding_of, text_of, took_all};
+    ghost use Rattle.text_wrapping.specs.Blocks.{with_lines, with_source};
     ghost use Rattle.text_wrapping.specs.Lines.{lines_in, waiting_in};
-    ghost use Rattle.text_pieces.specs.Sources.{sourced, fragments};
-    ghost use Rattle.text_wrapping.specs.Blocks.{block_of, has_failed, empty_block, added, took_all, in_mode, ended};
-    ghost use Rattle.text_wrapping.specs.Blocks.{line_ended, ended_lines, fragments_taken, behind_sources, with_lines};
-    ghost use Rattle.text_wrapping.specs.Blocks.{with_source, marked_by, padded, padding_of, is_too_narrow, broken};
-    ghost use Rattle.text_wrapping.specs.Blocks.{has_columns, AreJoinedLines};
-    ghost use Rattle.text_wrapping.specs.Lines.{lines_in, waiting_in};
-    ghost use Rattle.text_pieces.specs.Sources.{sourced, sources_of, fragments, names};
+    ghost use Rattle.text_pieces.specs.Sources.{fragments, names, sourced, sources_of};
 
     /// An empty block of lines of at most `width` columns. With `pad_blocks` each line is filled to the
     /// width with spaces tagged `default_tag`; with `allow_overflow` a character wider than the width
@@ -112,7 +106,7 @@ impl<T: EqualCopy + Drop> TextBlock<T> {
     }
 
     /// Adds text of one tag as `add_text` does, where it ends nothing: it is empty, or of the mode of the text so far,
-    /// in which white space is not preserved. Tells whether it did; else nothing has changed. The error is allocation
+    /// in which white space is not preserved. Emits whether it did; else nothing has changed. The error is allocation
     /// failure alone.
     #[inline(always)]
     pub fn add_more(&mut self, text: &str, ws_mode: WhiteSpace, tag: &T) -> Result<bool, AllocError>
@@ -134,7 +128,7 @@ impl<T: EqualCopy + Drop> TextBlock<T> {
     /// Takes text of one tag that ends nothing.
     #[inline(always)]
     fn take_tagged(&mut self, text: &str, tag: &T) -> Result<(), AllocError>
-        ensures run { OnOk result (text_of T.seen self.new ≡ behind_sources (sourced (chars text.now)
+        ensures run { OnOk result (text_of T.seen self.new ≡ after_sources (sourced (chars text.now)
             (T.seen tag.now) (T.seen tag.now)) (text_of T.seen self.old)) }
         ensures joined { AreJoinedLines T.seen self.old → AreJoinedLines T.seen self.new }
     {
@@ -183,9 +177,9 @@ impl<T: EqualCopy + Drop> TextBlock<T> {
         ensures joined { AreJoinedLines T.seen self.old → AreJoinedLines T.seen self.new }
     {
         let mut rest = text;
-        while let Some((line, behind)) = cut_at(rest, '\n') {
+        while let Some((line, trailing)) = cut_at(rest, '\n') {
             self.take_line(line, main_tag, wrap_tag)?;
-            rest = behind;
+            rest = trailing;
         }
         self.take_run(rest, main_tag, wrap_tag)
     }
@@ -193,9 +187,9 @@ impl<T: EqualCopy + Drop> TextBlock<T> {
     /// Takes the rest of a source line, and ends it.
     fn take_line(&mut self, text: &str, main_tag: &T, wrap_tag: &T) -> Result<(), BlockError>
         ensures kinds { IfErr result (λ e. (e ≡ BlockError.TooNarrow) ⊎ (e ≡ BlockError.Memory)) }
-        ensures ended { OnOk result (line_ended (behind_sources (sourced (chars text.now) (T.seen main_tag.now)
+        ensures ended { OnOk result (line_ended (after_sources (sourced (chars text.now) (T.seen main_tag.now)
             (T.seen wrap_tag.now)) (text_of T.seen self.old)) ≡ Some (text_of T.seen self.new)) }
-        ensures narrow { result ≡ Err BlockError.TooNarrow → line_ended (behind_sources (sourced (chars text.now)
+        ensures narrow { result ≡ Err BlockError.TooNarrow → line_ended (after_sources (sourced (chars text.now)
             (T.seen main_tag.now) (T.seen wrap_tag.now)) (text_of T.seen self.old)) ≡ None }
         ensures joined { AreJoinedLines T.seen self.old → AreJoinedLines T.seen self.new }
     {
@@ -203,13 +197,13 @@ impl<T: EqualCopy + Drop> TextBlock<T> {
         if let Some(line) = self.whole_line(text, main_tag)? {
             return Ok(self.put_line(line)?);
         }
-        self.end_line_behind(text, main_tag, wrap_tag)
+        self.end_line_after(text, main_tag, wrap_tag)
     }
 
     /// The line of a source line that begins and ends with the text, where it is seen to have one line.
     fn whole_line(&self, text: &str, main_tag: &T) -> Result<Option<TaggedLine<T>>, AllocError>
         ensures line { IfOk result (λ found. IfSome found (λ line. (further : T.Seen)
-            → line_ended (behind_sources (sourced (chars text.now) (T.seen main_tag.now) further)
+            → line_ended (after_sources (sourced (chars text.now) (T.seen main_tag.now) further)
             (text_of T.seen self.now))
             ≡ Some (with_lines (line_items T.seen line ∷ []) (text_of T.seen self.now)))) }
         ensures joined { IfOk result (λ found. IfSome found (IsJoined T.seen)) }
@@ -237,11 +231,11 @@ impl<T: EqualCopy + Drop> TextBlock<T> {
     }
 
     /// Adds text to the source line at hand, and ends it.
-    fn end_line_behind(&mut self, text: &str, main_tag: &T, wrap_tag: &T) -> Result<(), BlockError>
+    fn end_line_after(&mut self, text: &str, main_tag: &T, wrap_tag: &T) -> Result<(), BlockError>
         ensures kinds { IfErr result (λ e. (e ≡ BlockError.TooNarrow) ⊎ (e ≡ BlockError.Memory)) }
-        ensures ended { OnOk result (line_ended (behind_sources (sourced (chars text.now) (T.seen main_tag.now)
+        ensures ended { OnOk result (line_ended (after_sources (sourced (chars text.now) (T.seen main_tag.now)
             (T.seen wrap_tag.now)) (text_of T.seen self.old)) ≡ Some (text_of T.seen self.new)) }
-        ensures narrow { result ≡ Err BlockError.TooNarrow → line_ended (behind_sources (sourced (chars text.now)
+        ensures narrow { result ≡ Err BlockError.TooNarrow → line_ended (after_sources (sourced (chars text.now)
             (T.seen main_tag.now) (T.seen wrap_tag.now)) (text_of T.seen self.old)) ≡ None }
         ensures joined { AreJoinedLines T.seen self.old → AreJoinedLines T.seen self.new }
     {
@@ -253,7 +247,7 @@ impl<T: EqualCopy + Drop> TextBlock<T> {
     #[inline(always)]
     fn take_run(&mut self, text: &str, main_tag: &T, wrap_tag: &T) -> Result<(), BlockError>
         ensures kinds { IfErr result (λ e. e ≡ BlockError.Memory) }
-        ensures run { OnOk result (text_of T.seen self.new ≡ behind_sources (sourced (chars text.now)
+        ensures run { OnOk result (text_of T.seen self.new ≡ after_sources (sourced (chars text.now)
             (T.seen main_tag.now) (T.seen wrap_tag.now)) (text_of T.seen self.old)) }
         ensures joined { AreJoinedLines T.seen self.old → AreJoinedLines T.seen self.new }
     {

@@ -1,5 +1,5 @@
 use Rattle.std.proofs.Common.{sym, ap, subst}
-use Rattle.escaped_texts.specs.Escaped.{KnowsEscapes}
+use Rattle.document_laws.specs.Escaped.{KnowsEscapes}
 use Rattle.article_answers.proofs.laws.plain_configurations_are_for_articles.Goals as goal
 use Rattle.article_answers.proofs.PlainRules.{rules_of_plain}
 

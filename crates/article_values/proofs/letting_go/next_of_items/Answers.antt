@@ -13,7 +13,7 @@ pub returns : goal.returns
 returns c =
     let some_wait_now = some_wait (vec_len c.args.waiting.now) (sym c.is_empty.ensures ∙ c.if-is_empty.false) in
     let some_items = some_wait (vec_len c.args.items) (sym c.is_empty-2.ensures ∙ c.if-is_empty-2.false) in
-    let behind = size_of_bullets (with_item c.args.items 0 c.swap.new.x) in
+    let trailing = size_of_bullets (with_item c.args.items 0 c.swap.new.x) in
     let waited = ap (λ v. blocks_size v.items) c.swap.ensures.x_after in
     let waits = ap (λ v. blocks_size v.items) (c.swap.ensures.y_after ∙ c.index_mut.ensures.value) in
     let swapped = first_swapped c.args.items.items c.swap.new.x c.index_mut.result.now (omega arith) in

@@ -5,7 +5,7 @@ use Rattle.article_values.proofs.letting_go.next_of_last_item.Goals as goal
 
 pub returns : goal.returns
 returns c =
-    let behind = size_of_bullets c.pop.new.self in
+    let trailing = size_of_bullets c.pop.new.self in
     let all = ap items_size c.in-Some.ensures.items ∙ items_but_one c.pop.new.self.items c.in-Some.last in
     let waits = ap (λ v. blocks_size v.items) c.swap.ensures.y_after in
     rw (c.in_place_of_first.ensures.taken, c.in_place_of_first.ensures.left)

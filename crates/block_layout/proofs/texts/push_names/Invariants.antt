@@ -1,5 +1,5 @@
 use Rattle.std.proofs.Common.{◌≡◌, ◌++◌, map, length}
-use Rattle.tagged_lines.specs.Tagged.{line_items, marker, IsJoined}
+use Rattle.text_lines.specs.Tagged.{line_items, marker, IsJoined}
 use Rattle.text_pieces.specs.Sources.{names}
 use Rattle.block_layout.proofs.texts.push_names.Given as goal
 

@@ -2,7 +2,7 @@ use Rattle.std.proofs.Common.{◌≡◌, ◌++◌, map}
 use Rattle.std.specs.Option.{option_map}
 use Rattle.std.specs.Vec.Iter.{into_iter_items}
 use Rattle.text_cells.specs.Cells.{cell_of}
-use Rattle.renderer_calls.specs.Renderers.{cells_of_subs}
+use Rattle.block_trait.specs.Renderers.{cells_of_subs}
 use Rattle.block_renderer.specs.Seen.{sub_of, tags_seen}
 use Rattle.block_renderer.proofs.parts.cells_of_subs.Given as goal
 

@@ -1,10 +1,10 @@
 use Rattle.std.proofs.Common.{◌≡◌, Err, ap, option_map, refl, string_bytes, subst}
 use Rattle.std.specs.Prelude.{IfSome}
-use Rattle.command_words.specs.Requests.{asked_of}
+use Rattle.command_line.specs.Requests.{asked_of}
 use Rattle.html2text.proofs.AnswerLemmas.{no_basic, table_refused}
 use Rattle.html2text.proofs.response.answer.Goals as goal
 use Rattle.html2text.specs.Responses.{Complains}
-use Rattle.named_files.specs.TableFiles.{IsNoTable}
+use Rattle.command_line.specs.TableFiles.{IsNoTable}
 
 pub returns-in-Err : goal.returns-in-Err
 returns-in-Err g c =
@@ -18,16 +18,16 @@ returns-in-Err g c =
     (wrote.contents output) (wrote.contents output) (input ≡ input) (output ≡ output) (errors ≡ c.args.errors.now)
     (Complains (g.E.ByteWriter.has_failed errors) (g.E.ByteWriter.contents c.args.errors.now)
     (g.E.ByteWriter.contents errors)) c.refuse.result c.refuse.ensures.outcome
-    (ap (λ references. option_map string_bytes references) c.in-None.is) c.refuse.ensures.told refl
+    (ap (λ references. option_map string_bytes references) c.in-None.is) c.refuse.ensures.emitted refl
 
 pub returns-in-Err-table_in_file : goal.returns-in-Err-table_in_file
 returns-in-Err-table_in_file g c =
     let files = g.F.FileOpener.bytes_of c.args.files.now in
-    let told = λ (text : _). Complains (g.E.ByteWriter.has_failed c.complain.new.errors)
+    let emitted = λ (text : _). Complains (g.E.ByteWriter.has_failed c.complain.new.errors)
     (g.E.ByteWriter.contents c.args.errors.now) (g.E.ByteWriter.contents c.complain.new.errors) text in (
       (
         c.in-Err-table_in_file.fault,
-        subst told c.text.ensures c.complain.ensures,
+        subst emitted c.text.ensures c.complain.ensures,
         table_refused files (asked_of c.args.request.now).references (string_bytes c.in-Some.name)
             c.in-Err-table_in_file.fault (ap (λ references. option_map string_bytes references) c.in-Some.is)
             (λ e. subst (λ name. IfSome (files name) IsNoTable) c.as_str.ensures.value

@@ -1,10 +1,10 @@
 use Rattle.std.proofs.Common.{sym, ◌∙◌, inl, inr}
-use Rattle.html2text.specs.Responses.{Tells, complaint}
+use Rattle.html2text.specs.Responses.{Emits, complaint}
 use Rattle.html2text.proofs.ResponseLemmas.{IsRead, asked_refusal, done_status, refused_status, refused_with, statuses}
 use Rattle.html2text.proofs.ResponseLemmas.{table_refusal, table_status, unopened_refusal, words_status, writes_asked}
 use Rattle.html2text.proofs.ResponseLemmas.{writes_asked_part}
 use Rattle.html2text.proofs.response.respond.Goals as goal
-use Rattle.command_words.specs.FaultTexts.{fault_text}
+use Rattle.command_line.specs.FaultTexts.{fault_text}
 use Rattle.page_config.specs.declared.error.Error.TheVariants.{IoError}
 
 pub returns-clause-statuses : goal.returns-clause-statuses
@@ -32,7 +32,7 @@ returns-clause-refused g c = λ e.
     elim (refused_status c.carry_out-outcome.result (sym c.exit_status.ensures ∙ e)) [
       | inl page ↦ (
         page.0,
-        c.carry_out-outcome.ensures.told page.0 page.1,
+        c.carry_out-outcome.ensures.emitted page.0 page.1,
         asked_refusal c.args.words request c.carry_out-outcome.result page.0 files _ _ _ _ _ read
             c.carry_out-outcome.ensures.outcomes page.1 (c.carry_out-outcome.ensures.reason page.0 page.1)
             (c.carry_out-outcome.ensures.unhelped page.0 page.1),
@@ -65,7 +65,7 @@ returns-clause-unwritten g c = λ e.
 pub returns-clause-words : goal.returns-clause-words
 returns-clause-words g c = λ e.
     refused_with c.args.words c.request_of-request.result c.carry_out-outcome.result
-    (λ fault. Tells (g.E.ByteWriter.has_failed c.carry_out-outcome.new.errors)
+    (λ fault. Emits (g.E.ByteWriter.has_failed c.carry_out-outcome.new.errors)
     (g.E.ByteWriter.contents c.args.errors.now) (g.E.ByteWriter.contents c.carry_out-outcome.new.errors)
     (complaint (fault_text fault)))
     (record {

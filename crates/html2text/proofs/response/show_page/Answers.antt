@@ -1,5 +1,5 @@
 use Rattle.std.proofs.Common.{◌≡◌, ◌∙◌, ap, option_map, refl, string_bytes, subst}
-use Rattle.command_words.specs.Requests.{asked_of}
+use Rattle.command_line.specs.Requests.{asked_of}
 use Rattle.html2text.proofs.AnswerLemmas.{refused_here, refused_there, shown_here, shown_there}
 use Rattle.html2text.proofs.response.show_page.Goals as goal
 use Rattle.html2text.specs.Responses.{Complains}
@@ -29,7 +29,7 @@ returns-in-None g c =
     (Complains (g.E.ByteWriter.has_failed errors) (g.E.ByteWriter.contents c.args.errors.now)
     (g.E.ByteWriter.contents errors)) (read.has_failed input) (wrote.has_failed output) (wrote.was_flushed output)
     (read.count c.args.input.now) (read.count input) c.in-Err.error c.refuse.result c.refuse.ensures.outcome
-    (ap (λ file. option_map string_bytes file) c.in-None.is) c.in-Err.ensures c.refuse.ensures.told
+    (ap (λ file. option_map string_bytes file) c.in-None.is) c.in-Err.ensures c.refuse.ensures.emitted
 
 pub returns-in-Ok-write_page : goal.returns-in-Ok-write_page
 returns-in-Ok-write_page g c =
@@ -67,14 +67,14 @@ returns-in-Ok-open g c =
     (file.count c.in-Ok-open.file) (file.count c.write_page-in-Ok-open.new.input) c.in-Err-write_page.error
     c.refuse-in-Err-write_page.result c.refuse-in-Err-write_page.ensures.outcome
     (ap (λ file. option_map string_bytes file) c.in-Some.is) (c.in-Ok-open.ensures ∙ ap files c.as_str.ensures.value)
-    c.in-Err-write_page.ensures c.refuse-in-Err-write_page.ensures.told
+    c.in-Err-write_page.ensures c.refuse-in-Err-write_page.ensures.emitted
 
 pub returns : goal.returns
 returns g c =
     let errors = c.complain.new.errors in
-    let told = λ (text : _). Complains (g.E.ByteWriter.has_failed errors) (g.E.ByteWriter.contents c.args.errors.now)
+    let emitted = λ (text : _). Complains (g.E.ByteWriter.has_failed errors) (g.E.ByteWriter.contents c.args.errors.now)
     (g.E.ByteWriter.contents errors) text in (
-      subst told c.text.ensures c.complain.ensures,
+      subst emitted c.text.ensures c.complain.ensures,
       refl,
       (string_bytes c.in-Some.name, ap (λ file. option_map string_bytes file) c.in-Some.is),
     )

@@ -1,5 +1,5 @@
 use Rattle.std.proofs.Common.{◌≡◌, ◌∙◌, ap}
-use Rattle.command_words.specs.Requests.{asked_of}
+use Rattle.command_line.specs.Requests.{asked_of}
 use Rattle.html2text.proofs.EndingLemmas.{ends_as}
 use Rattle.html2text.proofs.SettingLemmas.{bare, plain_has, plain_narrow, plain_nothing, plain_setting, sharing}
 use Rattle.html2text.proofs.showing.write_plain.Goals as goal
@@ -21,7 +21,7 @@ returns g c =
     let is : IsSetting asked c.args.table setting =
     plain_setting asked c.args.table setting c.requires.rich c.requires.decorated same in
     ends_as _ _ _ _ _ _ _ _ _ _ _ _ _ _ _ _ _ c.write_by.result
-    (λ page told. plain_has asked c.args.table setting is c.requires.rich page told)
+    (λ page emitted. plain_has asked c.args.table setting is c.requires.rich page emitted)
     (λ page. plain_narrow asked c.args.table setting is c.requires.rich page)
     (λ page. plain_nothing asked c.args.table setting is c.requires.rich page)
     (c.max_bytes-config.ensures.bytes ∙ c.unwrap_or.ensures) c.write_by.ensures

@@ -1,5 +1,5 @@
 use Rattle.std.proofs.Common.{◌≡◌, ◌∙◌, ap}
-use Rattle.command_words.specs.Requests.{asked_of}
+use Rattle.command_line.specs.Requests.{asked_of}
 use Rattle.html2text.proofs.EndingLemmas.{ends_as}
 use Rattle.html2text.proofs.SettingLemmas.{bare, rich_has, rich_narrow, rich_nothing, rich_setting, sharing}
 use Rattle.html2text.proofs.showing.write_rich.Goals as goal
@@ -20,7 +20,7 @@ returns g c =
     }) c.rich.ensures.setting) in
     let is : IsSetting asked c.args.table setting = rich_setting asked c.args.table setting c.requires same in
     ends_as _ _ _ _ _ _ _ _ _ _ _ _ _ _ _ _ _ c.write_by.result
-    (λ page told. rich_has asked c.args.table setting is c.requires page told)
+    (λ page emitted. rich_has asked c.args.table setting is c.requires page emitted)
     (λ page. rich_narrow asked c.args.table setting is c.requires page)
     (λ page. rich_nothing asked c.args.table setting is c.requires page)
     (c.max_bytes-config.ensures.bytes ∙ c.unwrap_or.ensures) c.write_by.ensures

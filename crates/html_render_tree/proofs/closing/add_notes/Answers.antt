@@ -3,7 +3,7 @@ use Rattle.std.proofs.lemmas.Result.{err_from_is_err_and, on_ok_weaker}
 use Rattle.std.specs.Option.{option_and_then}
 use Rattle.block_renderer.specs.Footnotes.{add_footnotes}
 use Rattle.block_renderer.specs.Seen.{sub_of}
-use Rattle.tagged_lines.specs.Tagged.{line_items}
+use Rattle.text_lines.specs.Tagged.{line_items}
 use Rattle.text_pieces.specs.declared.fault.BlockError.TheVariants.{TooNarrow}
 use Rattle.html_render_tree.proofs.LineLemmas.{notes_are, some_left}
 use Rattle.html_render_tree.proofs.closing.add_notes.Goals as goal

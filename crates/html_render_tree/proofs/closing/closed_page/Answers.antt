@@ -1,6 +1,6 @@
 use Rattle.std.proofs.Common.{None, Some}
 use Rattle.block_renderer.specs.Seen.{marking, sub_of}
-use Rattle.walk_laws.specs.SeenParts.{parts_of}
+use Rattle.text_block_renderer.specs.SeenParts.{parts_of}
 use Rattle.html_render_tree.proofs.LineLemmas.{if_ok_by, noted_as, with_targets_as}
 use Rattle.html_render_tree.proofs.closing.closed_page.Goals as goal
 

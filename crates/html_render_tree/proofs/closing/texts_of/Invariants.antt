@@ -1,7 +1,7 @@
 use Rattle.std.proofs.Common.{◌≡◌, ◌++◌, map}
 use Rattle.std.specs.Vec.Iter.{into_iter_items}
 use Rattle.block_renderer.specs.Seen.{tags_seen}
-use Rattle.tagged_lines.specs.Tagged.{line_items}
+use Rattle.text_lines.specs.Tagged.{line_items}
 use Rattle.text_borders.specs.Lines.{line_shown, render_line_of}
 use Rattle.html_render_tree.proofs.closing.texts_of.Given as goal
 

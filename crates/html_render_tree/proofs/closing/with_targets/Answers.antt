@@ -1,8 +1,8 @@
 use Rattle.std.proofs.Common.{◌≡◌, Err, ap, sym, ◌∙◌}
 use Rattle.std.proofs.lemmas.Result.{err_from_is_err_and}
-use Rattle.renderer_calls.specs.Renderers.{with_held}
+use Rattle.block_trait.specs.Renderers.{with_held}
 use Rattle.block_renderer.specs.Seen.{sub_of}
-use Rattle.text_marks.specs.Marks.{page_end, seen_lines}
+use Rattle.text_decorators.specs.Marks.{page_end, seen_lines}
 use Rattle.text_pieces.specs.Sources.{names}
 use Rattle.text_pieces.specs.declared.fault.BlockError.TheVariants.{TooNarrow}
 use Rattle.html_render_tree.specs.PageLines.{with_notes}

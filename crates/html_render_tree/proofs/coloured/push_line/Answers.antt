@@ -1,6 +1,6 @@
 use Rattle.std.proofs.Common.{◌∷◌, [], rules, refl, string_bytes, subst}
-use Rattle.tagged_lines.specs.Iterating.{strings_left}
-use Rattle.tagged_lines.specs.Tagged.{line_strings}
+use Rattle.text_lines.specs.Iterating.{strings_left}
+use Rattle.text_lines.specs.Tagged.{line_strings}
 use Rattle.html_render_tree.proofs.ColouredLemmas.{HasColoured, all_coloured, one_coloured}
 use Rattle.html_render_tree.specs.Coloured.{Colours}
 use Rattle.html_render_tree.proofs.coloured.push_line.Goals as goal

@@ -1,6 +1,6 @@
 use Rattle.std.proofs.Common.{string_bytes}
-use Rattle.tagged_lines.specs.Iterating.{strings_left}
-use Rattle.tagged_lines.specs.Tagged.{line_strings}
+use Rattle.text_lines.specs.Iterating.{strings_left}
+use Rattle.text_lines.specs.Tagged.{line_strings}
 use Rattle.html_render_tree.proofs.ColouredLemmas.{HasColoured}
 use Rattle.html_render_tree.specs.Coloured.{Colours}
 use Rattle.html_render_tree.proofs.coloured.push_line.Given as goal

@@ -1,7 +1,7 @@
 use Rattle.std.specs.Prelude.{[]}
 use Rattle.block_renderer.specs.Seen.{marking}
-use Rattle.renderer_calls.specs.Renderers.{Marking, new_sub}
-use Rattle.walk_laws.specs.Parts.{whole_page}
+use Rattle.block_trait.specs.Renderers.{Marking, new_sub}
+use Rattle.text_block_renderer.specs.Parts.{whole_page}
 use Rattle.html_render_tree.proofs.PageLemmas.{PageWidths, lines_within}
 use Rattle.html_render_tree.proofs.laws.pages_keep_the_width.Goals as goal
 

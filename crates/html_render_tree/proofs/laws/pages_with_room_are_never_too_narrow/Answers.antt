@@ -1,8 +1,8 @@
 use Rattle.std.specs.Prelude.{[]}
 use Rattle.block_renderer.specs.Seen.{marking}
-use Rattle.renderer_calls.specs.Calls.{starts_block}
-use Rattle.renderer_calls.specs.Renderers.{Marking, new_sub}
-use Rattle.walk_laws.specs.Parts.{whole_page}
+use Rattle.block_trait.specs.Calls.{starts_block}
+use Rattle.block_trait.specs.Renderers.{Marking, new_sub}
+use Rattle.text_block_renderer.specs.Parts.{whole_page}
 use Rattle.html_render_tree.proofs.PageLemmas.{PageRooms, never_narrow}
 use Rattle.html_render_tree.proofs.laws.pages_with_room_are_never_too_narrow.Goals as goal
 

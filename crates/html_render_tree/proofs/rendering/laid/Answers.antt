@@ -3,9 +3,9 @@ use Rattle.block_renderer.specs.Seen.{marking}
 use Rattle.render_conversion.specs.declared.error.RenderError.TheVariants.{TooNarrow}
 use Rattle.render_sizes.specs.Asked.{asked_extents}
 use Rattle.render_sizes.specs.Extents.{measure_of}
-use Rattle.walk_laws.specs.Lay.{laid_parts}
-use Rattle.renderer_calls.specs.Renderers.{new_sub}
-use Rattle.walk_laws.specs.Parts.{depth_of, whole_page}
+use Rattle.layout_values.specs.Lay.{laid_parts}
+use Rattle.block_trait.specs.Renderers.{new_sub}
+use Rattle.text_block_renderer.specs.Parts.{depth_of, whole_page}
 use Rattle.html_render_tree.specs.PageLines.{begun_as, prefix_columns}
 use Rattle.html_render_tree.proofs.rendering.laid.Goals as goal
 

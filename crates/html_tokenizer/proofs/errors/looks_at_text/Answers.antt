@@ -1,7 +1,7 @@
 use Rattle.std.proofs.Common.{◌==◌, sym, ◌∙◌}
 use Rattle.std.proofs.lemmas.Bool.{ne_eqb}
-use Rattle.parse_errors.specs.Found.{is_exact, is_watching}
-use Rattle.parse_errors.specs.Noncharacters.{is_noncharacter}
+use Rattle.token_errors.specs.Found.{is_exact, is_watching}
+use Rattle.token_errors.specs.Noncharacters.{is_noncharacter}
 use Rattle.html_tokenizer.proofs.RunLemmas.{nul_alone}
 use Rattle.html_tokenizer.proofs.errors.looks_at_text.Goals as goal
 

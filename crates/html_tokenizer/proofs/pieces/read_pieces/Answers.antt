@@ -8,11 +8,11 @@ no_pieces : {Z : Type 0} (pieces : List (String Z)) → length pieces ≡ 0 → 
 no_pieces [] e = refl
 no_pieces (piece ∷ pieces) e = absurd (omega arith)
 
-pub returns-clause-told : goal.returns-clause-told
-returns-clause-told g c =
-    let told = c.in_ok-end.ensures.completes in
+pub returns-clause-emitted : goal.returns-clause-emitted
+returns-clause-emitted g c =
+    let emitted = c.in_ok-end.ensures.completes in
     let left : length (into_iter_items c.pieces.piece-iterator) ≡ 0 =
     omega (arith, c.pieces.piece-iterator.rest.ok.0, c.in-None.ensures.steps.0) in
-    let reads = subst (λ x. Completes g.Sink.TokenSink.state g.Sink.TokenSink.means c.pieces.tokenizer x told.0)
-    (sym (no_pieces (into_iter_items c.pieces.piece-iterator) left)) told.1.0 in
-    (told.0, (c.pieces.invariant.reads told.0 reads, told.1.1))
+    let reads = subst (λ x. Completes g.Sink.TokenSink.state g.Sink.TokenSink.means c.pieces.tokenizer x emitted.0)
+    (sym (no_pieces (into_iter_items c.pieces.piece-iterator) left)) emitted.1.0 in
+    (emitted.0, (c.pieces.invariant.reads emitted.0 reads, emitted.1.1))

@@ -1,8 +1,8 @@
 use Rattle.std.proofs.Common.{◌≡◌, false}
 use Rattle.std.specs.Vec.Iter.{into_iter_items}
-use Rattle.html_grammar.specs.FirstMode.{first_mode}
-use Rattle.html_grammar.specs.PageText.{page_text}
-use Rattle.html_grammar.specs.Reading.{Reading}
+use Rattle.token_grammar.specs.FirstMode.{first_mode}
+use Rattle.token_grammar.specs.PageText.{page_text}
+use Rattle.token_grammar.specs.Reading.{Reading}
 use Rattle.html_tokenizer.specs.Completes.{Completes, IsFit, has_failed}
 use Rattle.html_tokenizer.specs.Pieces.{joined}
 use Rattle.html_tokenizer.proofs.pieces.read_pieces.Given as goal

@@ -1,7 +1,7 @@
 use Rattle.std.proofs.Common.{ap, option_map, ◌∙◌}
-use Rattle.html_forest.specs.Forest.{name_of}
+use Rattle.tree_forest.specs.Forest.{name_of}
 use Rattle.html_tree_builder.proofs.fragments.parse_fragment_for_element.Goals as goal
-use Rattle.tree_builder.specs.Begun.{begun_fragment, context_state}
+use Rattle.html_tree_builder.specs.Begun.{begun_fragment, context_state}
 
 pub returns-clause-begins : goal.returns-clause-begins
 returns-clause-begins g c = λ text final does.

@@ -1,13 +1,13 @@
 use Rattle.std.proofs.Common.{ℕ, List, ◌++◌, subst}
-use Rattle.html_grammar.specs.PageText.{page_text}
-use Rattle.html_grammar.specs.Reading.{Reading}
+use Rattle.token_grammar.specs.PageText.{page_text}
+use Rattle.token_grammar.specs.Reading.{Reading}
 use Rattle.html_lexemes.specs.declared.states.State.{State as TextState}
 use Rattle.html_tokenizer.specs.Completes as tokenizers
 use Rattle.html_tree_builder.proofs.fragments.parser_from.Goals as goal
 use Rattle.html_tree_builder.specs.Fragments.{mode_from}
 use Rattle.html_tree_builder.specs.Parsers.{Completes, state_in}
-use Rattle.tree_rules.specs.Settling.{meaning}
-use Rattle.tree_rules.specs.State.{State}
+use Rattle.rules_table.specs.Settling.{meaning}
+use Rattle.rules_table.specs.State.{State}
 
 pub new-requires : goal.new-requires
 new-requires g c = record { is_ready = c.requires.ready; hears = λ item kind. c.requires.hears item }

@@ -1,11 +1,11 @@
 use Rattle.std.proofs.Common.{◌++◌, subst}
-use Rattle.html_grammar.specs.FirstMode.{first_mode}
-use Rattle.html_grammar.specs.PageText.{page_text}
-use Rattle.html_grammar.specs.Reading.{Reading}
+use Rattle.token_grammar.specs.FirstMode.{first_mode}
+use Rattle.token_grammar.specs.PageText.{page_text}
+use Rattle.token_grammar.specs.Reading.{Reading}
 use Rattle.html_tokenizer.specs.Completes as tokenizers
 use Rattle.html_tree_builder.proofs.pages.parse_document.Goals as goal
 use Rattle.html_tree_builder.specs.Parsers.{Completes, state_in}
-use Rattle.tree_rules.specs.Settling.{meaning}
+use Rattle.rules_table.specs.Settling.{meaning}
 
 pub returns-clause-begins : goal.returns-clause-begins
 unfolding Completes

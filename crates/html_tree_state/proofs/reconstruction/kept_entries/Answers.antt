@@ -1,8 +1,8 @@
 use Rattle.std.proofs.Common.{◌≡◌, ℕ, sym, ap, ◌∙◌, ◌-◌, length, take, arith}
-use Rattle.tree_building.specs.Entries.{entries_of, entry_of}
-use Rattle.tree_building.specs.Building.{stack_of}
-use Rattle.tree_building.specs.Formatting.{made_already}
-use Rattle.tree_building.proofs.MadeAnewLemmas.{entries_more, kept_before, kept_length}
+use Rattle.tree_formatting.specs.Entries.{entries_of, entry_of}
+use Rattle.tree_model.specs.Building.{stack_of}
+use Rattle.tree_model.specs.Formatting.{made_already}
+use Rattle.tree_model.proofs.MadeAnewLemmas.{entries_more, kept_before, kept_length}
 use Rattle.html_tree_state.proofs.reconstruction.kept_entries.Goals as goal
 
 pub returns-then-stays : goal.returns-then-stays

@@ -1,7 +1,7 @@
 use Rattle.std.proofs.Common.{◌≡◌, ◌≤◌, length, take}
-use Rattle.tree_building.specs.Entries.{entries_of}
-use Rattle.tree_building.specs.Building.{stack_of}
-use Rattle.tree_building.specs.Formatting.{made_already}
+use Rattle.tree_formatting.specs.Entries.{entries_of}
+use Rattle.tree_model.specs.Building.{stack_of}
+use Rattle.tree_model.specs.Formatting.{made_already}
 use Rattle.html_tree_state.proofs.reconstruction.kept_entries.Given as goal
 
 -- none of those that were passed stays

@@ -1,13 +1,13 @@
 use Rattle.std.proofs.Common.{ap, refl}
 use Rattle.std.proofs.lemmas.Result.{IfOk-weaker}
 use Rattle.text_decorators.specs.Steady.{plain_is_steady}
-use Rattle.page_config.proofs.PlainLemmas.{plain_answer, told_text}
+use Rattle.page_config.proofs.PlainLemmas.{plain_answer, emitted_text}
 use Rattle.page_config.proofs.plain.from_read.Goals as goal
 use Rattle.page_config.specs.PageAnswers.{fail, too_narrow}
 use Rattle.page_config.specs.Settings.{bare_setting}
 
 pub returns-clause-text : goal.returns-clause-text
-returns-clause-text g c = told_text c.args.table (bare_setting c.in_ok-plain.field-0) c.args.width
+returns-clause-text g c = emitted_text c.args.table (bare_setting c.in_ok-plain.field-0) c.args.width
     (g.R.ByteReader.remaining c.args.input.now) c.string_from_read.result c.in_ok-plain.ensures.plain
     c.string_from_read.ensures.text
 

@@ -1,6 +1,6 @@
 use Rattle.std.proofs.Common.{refl}
-use Rattle.html_forest.proofs.KeptForests.{page_alone_kept}
-use Rattle.utf8_decoding.specs.ReplacedText.{replaced_text}
+use Rattle.tree_forest.proofs.KeptForests.{page_alone_kept}
+use Rattle.page_decoding.specs.ReplacedText.{replaced_text}
 use Rattle.page_reading.specs.PageTrees.{first_of_page}
 use Rattle.page_laws.proofs.laws.bytes_have_the_skeleton_of_a_page.Goals as goal
 

@@ -1,5 +1,5 @@
-use Rattle.html_grammar.specs.FirstMode.{first_mode}
-use Rattle.html_grammar.specs.PageText.{page_text}
+use Rattle.token_grammar.specs.FirstMode.{first_mode}
+use Rattle.token_grammar.specs.PageText.{page_text}
 use Rattle.page_reading.proofs.laws.a_page_has_a_tree.Goals as goal
 use Rattle.page_reading.proofs.TreeLemmas.{tree_of_reading}
 use Rattle.html_tree_builder.specs.Begun.{begun}

@@ -1,6 +1,6 @@
 use Rattle.page_reading.proofs.laws.a_page_has_one_tree_of_bytes.Goals as goal
 use Rattle.page_reading.specs.PageTrees.{first_of_page}
-use Rattle.utf8_decoding.specs.ReplacedText.{replaced_text}
+use Rattle.page_decoding.specs.ReplacedText.{replaced_text}
 
 pub returns-clause-forest : goal.returns-clause-forest
 returns-clause-forest c = λ table options bytes.

@@ -1,6 +1,6 @@
 use Rattle.std.proofs.Common.{◌≡◌, ◌∙◌, chars}
 use Rattle.std.proofs.lemmas.Result.{IfOk-weaker}
-use Rattle.tree_words.proofs.WordLemmas.{word_chars}
+use Rattle.tree_predicates.proofs.WordLemmas.{word_chars}
 use Rattle.render_conversion.proofs.decorating.word.Goals as goal
 
 pub returns : goal.returns

@@ -1,6 +1,6 @@
 use Rattle.std.proofs.Common.{◌≡◌, length}
-use Rattle.style_cascade.specs.Styles.{declared_at}
-use Rattle.style_cascade.specs.declared.rules.StylePlace.{StylePlace}
+use Rattle.dom_styles.specs.Styles.{declared_at}
+use Rattle.dom_styles.specs.declared.rules.StylePlace.{StylePlace}
 use Rattle.render_conversion.proofs.styles.is_named.Given as goal
 
 -- what was passed declares nothing

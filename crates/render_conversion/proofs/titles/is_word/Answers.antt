@@ -1,5 +1,5 @@
 use Rattle.std.proofs.Common.{◌∙◌}
-use Rattle.tree_words.proofs.WordLemmas.{same_word}
+use Rattle.tree_predicates.proofs.WordLemmas.{same_word}
 use Rattle.render_conversion.proofs.titles.is_word.Goals as goal
 
 pub returns : goal.returns

@@ -1,7 +1,7 @@
 use Rattle.std.proofs.Common.{◌∙◌}
 use Rattle.std.proofs.lemmas.Str.{chars-nil}
-use Rattle.forest_trees.specs.Trees.{trees}
-use Rattle.html_forest.specs.Forest.{children_at}
+use Rattle.tree_forest.specs.Trees.{trees}
+use Rattle.tree_forest.specs.Forest.{children_at}
 use Rattle.html_render_dom.specs.ChildNodes.{children_left}
 use Rattle.html_render_dom.specs.Numbers.{number_of}
 use Rattle.render_conversion.specs.Titles.{text_of}

@@ -1,6 +1,6 @@
 use Rattle.std.proofs.Common.{◌≡◌, ◌++◌}
-use Rattle.forest_trees.specs.Trees.{steps, trees}
-use Rattle.html_forest.specs.Forest.{children_at}
+use Rattle.tree_forest.specs.Trees.{steps, trees}
+use Rattle.tree_forest.specs.Forest.{children_at}
 use Rattle.html_render_dom.specs.Numbers.{number_of}
 use Rattle.render_conversion.specs.Titles.{text_of}
 use Rattle.render_conversion.proofs.titles.text_in.Given as goal

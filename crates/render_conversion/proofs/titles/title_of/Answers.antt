@@ -1,15 +1,15 @@
 use Rattle.std.proofs.Common.{ap, sym, ◌∙◌}
 use Rattle.std.specs.Prelude.{Some}
-use Rattle.forest_trees.specs.Trees.{trees}
+use Rattle.tree_forest.specs.Trees.{trees}
 use Rattle.html_render_dom.specs.ChildNodes.{children_left}
 use Rattle.html_render_dom.specs.Numbers.{number_of}
 use Rattle.render_conversion.specs.Titles.{title_of}
-use Rattle.render_conversion.proofs.TitleLemmas.{title_behind, title_here}
+use Rattle.render_conversion.proofs.TitleLemmas.{title_after, title_here}
 use Rattle.render_conversion.proofs.titles.title_of.Goals as goal
 
 pub children-preserved : goal.children-preserved
 children-preserved c =
-    sym (title_behind c.args.dom.now.forest (children_left c.children.children) (number_of c.in-Some.child)
+    sym (title_after c.args.dom.now.forest (children_left c.children.children) (number_of c.in-Some.child)
     (children_left c.next.new.self)
     (λ n ns. c.a_tree_goes_one_step_on.ensures.first c.args.dom.now.forest n ns c.requires) c.in-Some.ensures.steps
     (sym c.is_title.ensures ∙ c.if-is_title.false))

@@ -2,7 +2,7 @@ use Rattle.std.proofs.Common.{◌∙◌, sym}
 use Rattle.html_render_dom.specs.ChildNodes.{children_left}
 use Rattle.render_conversion.specs.Seen.{seen_parts}
 use Rattle.render_conversion.specs.Styles.{styles_of}
-use Rattle.render_conversion.proofs.StepLemmas.{hidden_done, unseen_done, visit_behind}
+use Rattle.render_conversion.proofs.StepLemmas.{hidden_done, unseen_done, visit_after}
 use Rattle.render_conversion.proofs.walk.visit.Goals as goal
 
 pub returns-then-not-is_seen : goal.returns-then-not-is_seen
@@ -21,12 +21,12 @@ returns-then-style c =
 
 pub returns : goal.returns
 returns c =
-    visit_behind c.push_visits.result (styles_of c.args.rules.now) c.args.dom.now.forest c.args.node c.args.place
-    c.in_ok-meaning.meaning c.is_guarded.result c.len.result c.args.turns.now c.push.new.self c.push_behind.new.turns
+    visit_after c.push_visits.result (styles_of c.args.rules.now) c.args.dom.now.forest c.args.node c.args.place
+    c.in_ok-meaning.meaning c.is_guarded.result c.len.result c.args.turns.now c.push.new.self c.push_after.new.turns
     c.push_visits.new.turns c.args.nodes.now.items c.push_head.new.nodes.items c.say.new.nodes.items
     (children_left c.children.result) (seen_parts c.style_of-style.result)
     (λ n ns. c.a_tree_goes_one_step_on.ensures.first c.args.dom.now.forest n ns c.requires.forest)
     (sym c.is_seen.ensures ∙ c.if-not-is_seen.false) c.style_of-style.ensures c.if-style.false
     c.in_ok-meaning.ensures c.is_guarded.ensures c.requires.ordered c.requires.flat
     (c.len.ensures ∙ c.args.nodes.now.ok.0) c.children.ensures c.in_ok-push_head.ensures c.in_ok-say.ensures
-    c.in_ok-push.ensures c.in_ok-push_behind.ensures c.push_visits.ensures
+    c.in_ok-push.ensures c.in_ok-push_after.ensures c.push_visits.ensures

@@ -2,7 +2,7 @@ use Rattle.std.proofs.Common.{◌∙◌, ap, sym, subst}
 use Rattle.render_values.specs.Arena.{IsFlat, values_of}
 use Rattle.render_sizes.specs.Extents.{extents, measure_of}
 use Rattle.render_values.proofs.ArenaLemmas.{below_fits}
-use Rattle.render_sizes.proofs.ExtentLemmas.{behind_fits, first_by, inner_extents, inner_flat, measured_behind}
+use Rattle.render_sizes.proofs.ExtentLemmas.{after_fits, first_by, inner_extents, inner_flat, measured_after}
 use Rattle.render_sizes.proofs.sizes.measured_first.Goals as goal
 
 pub first_nodes-inner-requires : goal.first_nodes-inner-requires
@@ -12,9 +12,9 @@ first_nodes-inner-requires g c =
 pub first_extents-sizes-requires : goal.first_extents-sizes-requires
 first_extents-sizes-requires g c =
     let m = measure_of c.args.min_wrap (g.P.Prefixes.columns c.args.prefixes.now) in
-    behind_fits m c.in-Some.first.now c.in-Some.others.now c.args.measured.now
+    after_fits m c.in-Some.first.now c.in-Some.others.now c.args.measured.now
     (subst IsFlat c.in-Some.ensures.cases.0 c.requires.flat)
-    (measured_behind m c.args.nodes.now c.in-Some.first.now c.in-Some.others.now c.args.measured.now
+    (measured_after m c.args.nodes.now c.in-Some.first.now c.in-Some.others.now c.args.measured.now
     c.in-Some.ensures.cases.0 c.requires.same)
 
 pub together-inside-requires-clause-flat : goal.together-inside-requires-clause-flat
@@ -28,7 +28,7 @@ together-inside-requires-clause-same g c =
     c.first_extents-sizes.ensures
     ∙ (inner_extents m c.in-Some.first.now c.in-Some.others.now c.args.measured.now
     (subst IsFlat c.in-Some.ensures.cases.0 c.requires.flat)
-    (measured_behind m c.args.nodes.now c.in-Some.first.now c.in-Some.others.now c.args.measured.now
+    (measured_after m c.args.nodes.now c.in-Some.first.now c.in-Some.others.now c.args.measured.now
     c.in-Some.ensures.cases.0 c.requires.same)
     ∙ ap (λ l. extents m (values_of l)) (sym c.first_nodes-inner.ensures))
 
@@ -43,7 +43,7 @@ extent_by-requires-clause-same g c =
     c.first_extents-sizes.ensures
     ∙ (inner_extents m c.in-Some.first.now c.in-Some.others.now c.args.measured.now
     (subst IsFlat c.in-Some.ensures.cases.0 c.requires.flat)
-    (measured_behind m c.args.nodes.now c.in-Some.first.now c.in-Some.others.now c.args.measured.now
+    (measured_after m c.args.nodes.now c.in-Some.first.now c.in-Some.others.now c.args.measured.now
     c.in-Some.ensures.cases.0 c.requires.same)
     ∙ ap (λ l. extents m (values_of l)) (sym c.first_nodes-inner.ensures))
 

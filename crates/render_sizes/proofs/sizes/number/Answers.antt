@@ -9,19 +9,19 @@ one_more-count-requires c =
     number_below c.args.nodes.now c.values.rest.now c.in-Some.first.now c.in-Some.others.now c.values.count
     (length c.args.nodes.now) c.in-Some.ensures.cases.0 c.requires refl c.values.invariant.all
 
-pub nodes_behind-rest-requires : goal.nodes_behind-rest-requires
-nodes_behind-rest-requires c =
+pub nodes_after-rest-requires : goal.nodes_after-rest-requires
+nodes_after-rest-requires c =
     below_fits c.in-Some.first.now c.in-Some.others.now
     (subst IsFlat c.in-Some.ensures.cases.0 c.values.invariant.flat)
 
 pub values-preserved : goal.values-preserved
 values-preserved c = record {
-  flat = subst IsFlat (sym c.nodes_behind-rest.ensures)
+  flat = subst IsFlat (sym c.nodes_after-rest.ensures)
       (next_flat c.in-Some.first.now c.in-Some.others.now
       (subst IsFlat c.in-Some.ensures.cases.0 c.values.invariant.flat));
-  all = number_next c.values.rest.now c.in-Some.first.now c.in-Some.others.now c.nodes_behind-rest.result.now
+  all = number_next c.values.rest.now c.in-Some.first.now c.in-Some.others.now c.nodes_after-rest.result.now
       c.values.count c.one_more-count.result _ c.in-Some.ensures.cases.0 c.values.invariant.flat
-      c.nodes_behind-rest.ensures c.one_more-count.ensures c.values.invariant.all;
+      c.nodes_after-rest.ensures c.one_more-count.ensures c.values.invariant.all;
 }
 
 pub returns : goal.returns

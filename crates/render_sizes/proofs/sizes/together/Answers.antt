@@ -3,8 +3,8 @@ use Rattle.render_values.specs.Arena.{IsFlat, values_of}
 use Rattle.render_sizes.specs.Extents.{beside, extent, extents, measure_of, nothing_wide}
 use Rattle.render_sizes.specs.declared.extent.Extent.{Extent}
 use Rattle.render_values.proofs.ArenaLemmas.{below_fits, next_flat}
-use Rattle.render_sizes.proofs.ExtentLemmas.{behind_fits, first_beside, left_next, left_some, next_extents}
-use Rattle.render_sizes.proofs.ExtentLemmas.{sum_done, sum_fits, sum_on}
+use Rattle.render_sizes.proofs.ExtentLemmas.{after_fits, first_beside, left_next, left_some, next_extents, sum_done}
+use Rattle.render_sizes.proofs.ExtentLemmas.{sum_fits, sum_on}
 use Rattle.render_sizes.proofs.sizes.together.Goals as goal
 
 pub values-init : goal.values-init
@@ -24,23 +24,23 @@ bounds-left-0 g c =
     left_some m c.values.rest.now c.in-Some.first.now c.in-Some.others.now c.values.left.now
     c.in-Some.ensures.cases.0 c.values.invariant.flat c.values.invariant.same
 
-pub extents_behind-requires : goal.extents_behind-requires
-extents_behind-requires g c =
+pub extents_after-requires : goal.extents_after-requires
+extents_after-requires g c =
     let m = measure_of c.args.min_wrap (g.P.Prefixes.columns c.args.prefixes.now) in
     left_some m c.values.rest.now c.in-Some.first.now c.in-Some.others.now c.values.left.now
     c.in-Some.ensures.cases.0 c.values.invariant.flat c.values.invariant.same
 
-pub extents_behind-left-requires : goal.extents_behind-left-requires
-extents_behind-left-requires g c =
+pub extents_after-left-requires : goal.extents_after-left-requires
+extents_after-left-requires g c =
     let m = measure_of c.args.min_wrap (g.P.Prefixes.columns c.args.prefixes.now) in
-    behind_fits m c.in-Some.first.now c.in-Some.others.now c.extents_behind.result.now
+    after_fits m c.in-Some.first.now c.in-Some.others.now c.extents_after.result.now
     (subst IsFlat c.in-Some.ensures.cases.0 c.values.invariant.flat)
     (left_next m c.values.rest.now c.in-Some.first.now c.in-Some.others.now c.values.left.now
-    c.extents_behind.result.now c.in-Some.ensures.cases.0 c.values.invariant.flat c.values.invariant.same
-    c.extents_behind.ensures)
+    c.extents_after.result.now c.in-Some.ensures.cases.0 c.values.invariant.flat c.values.invariant.same
+    c.extents_after.ensures)
 
-pub nodes_behind-rest-requires : goal.nodes_behind-rest-requires
-nodes_behind-rest-requires g c =
+pub nodes_after-rest-requires : goal.nodes_after-rest-requires
+nodes_after-rest-requires g c =
     below_fits c.in-Some.first.now c.in-Some.others.now
     (subst IsFlat c.in-Some.ensures.cases.0 c.values.invariant.flat)
 
@@ -48,17 +48,17 @@ pub values-preserved : goal.values-preserved
 values-preserved g c =
     let m = measure_of c.args.min_wrap (g.P.Prefixes.columns c.args.prefixes.now) in
     record {
-      flat = subst IsFlat (sym c.nodes_behind-rest.ensures)
+      flat = subst IsFlat (sym c.nodes_after-rest.ensures)
           (next_flat c.in-Some.first.now c.in-Some.others.now
           (subst IsFlat c.in-Some.ensures.cases.0 c.values.invariant.flat));
-      same = c.extents_behind-left.ensures
-          ∙ (next_extents m c.in-Some.first.now c.in-Some.others.now c.extents_behind.result.now
+      same = c.extents_after-left.ensures
+          ∙ (next_extents m c.in-Some.first.now c.in-Some.others.now c.extents_after.result.now
           (subst IsFlat c.in-Some.ensures.cases.0 c.values.invariant.flat)
           (left_next m c.values.rest.now c.in-Some.first.now c.in-Some.others.now c.values.left.now
-          c.extents_behind.result.now c.in-Some.ensures.cases.0 c.values.invariant.flat c.values.invariant.same
-          c.extents_behind.ensures)
-          ∙ ap (λ l. extents m (values_of l)) (sym c.nodes_behind-rest.ensures));
-      sum = ap (λ l. beside c.beside-sum.result (extent m (values_of l))) c.nodes_behind-rest.ensures
+          c.extents_after.result.now c.in-Some.ensures.cases.0 c.values.invariant.flat c.values.invariant.same
+          c.extents_after.ensures)
+          ∙ ap (λ l. extents m (values_of l)) (sym c.nodes_after-rest.ensures));
+      sum = ap (λ l. beside c.beside-sum.result (extent m (values_of l))) c.nodes_after-rest.ensures
           ∙ sum_on m c.values.rest.now c.in-Some.first.now c.in-Some.others.now c.values.left.now
           nothing_wide (get_or c.values.left.now 0 nothing_wide) c.values.sum c.beside-sum.result _
           c.in-Some.ensures.cases.0 c.values.invariant.flat c.values.invariant.same refl c.beside-sum.ensures

@@ -1,7 +1,7 @@
 use Rattle.std.proofs.Common.{◌≡◌, ◌+◌, ◌≤◌, length}
 use Rattle.render_values.specs.Arena.{IsFlat, values_of}
 use Rattle.render_sizes.specs.Extents.{Measure, extents}
-use Rattle.render_sizes.proofs.RowLemmas.{IsTold}
+use Rattle.render_sizes.proofs.RowLemmas.{IsEmitted}
 use Rattle.render_sizes.proofs.tables.row_cells.Given as goal
 
 -- what was emitted, and what the rest still emits
@@ -10,8 +10,8 @@ invariant-nodes l = record {
   flat : IsFlat l.rest;
   size : length l.left ≡ length l.rest;
   room : l.rows + length l.rest ≤ length l.nodes;
-  told : (m : Measure) → l.sizes ≡ extents m (values_of l.nodes)
-      → IsTold m l.nodes l.rest l.left l.cells.items l.rows;
+  emitted : (m : Measure) → l.sizes ≡ extents m (values_of l.nodes)
+      → IsEmitted m l.nodes l.rest l.left l.cells.items l.rows;
 }
 
 abbrev pub decreases-nodes : goal.decreases-nodes

@@ -2,7 +2,7 @@ use Rattle.std.proofs.Common.{◌≡◌, ℕ, ◌≤◌, false, ap, arith, inr}
 use Rattle.std.specs.Prelude.{unwrap_or}
 use Rattle.std.specs.Char.{is_whitespace}
 use Rattle.std.proofs.lemmas.Bool.Decides.{nat_tests}
-use Rattle.tagged_lines.specs.Columns.{columns_of-one, width_of}
+use Rattle.text_lines.specs.Columns.{columns_of-one, width_of}
 use Rattle.render_sizes.proofs.texts.is_graphic.Goals as goal
 
 one_wide : (c : ℕ) → 33 ≤ c → c ≤ 126 → width_of c ≡ 1

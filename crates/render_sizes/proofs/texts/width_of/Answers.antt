@@ -1,6 +1,6 @@
 use Rattle.std.proofs.Common.{ap, ◌∙◌}
 use Rattle.std.specs.Prelude.{unwrap_or}
-use Rattle.tagged_lines.specs.Columns.{width_of}
+use Rattle.text_lines.specs.Columns.{width_of}
 use Rattle.render_sizes.proofs.texts.width_of.Goals as goal
 
 pub returns : goal.returns

@@ -1,9 +1,9 @@
-use Rattle.std.proofs.Common.{◌≡◌, ℕ, ◌<◌, ◌++◌, ◌∷◌, [], arith, subst, sym, List, length, map}
-use Rattle.std.proofs.Common.{take_all, ap, ◌∙◌, get_or}
+use Rattle.std.proofs.Common.{◌≡◌, ◌<◌, ◌++◌, ◌∷◌, [], ◌∙◌, List, ap, arith, get_or, length, map, subst, sym, take_all}
+use Rattle.std.proofs.Common.{ℕ}
 use Rattle.std.proofs.lemmas.List.FromFn.{length-map-range_with_len}
 use Rattle.std.proofs.lemmas.List.{get_or_default}
-use Rattle.table_columns.specs.declared.part.Part.{Part}
-use Rattle.table_columns.specs.Columns.{greatest_at, greatest_parts_of, AreWithin}
+use Rattle.table_grid.specs.declared.part.Part.{Part}
+use Rattle.table_grid.specs.Columns.{greatest_at, greatest_parts_of, AreWithin}
 use Rattle.table_grid.specs.declared.columns.Column.{Column}
 use Rattle.table_grid.specs.Grid.{size_part, least_part}
 use Rattle.table_grid.proofs.PartLemmas.{sizes_within, leasts_within, columns_more}

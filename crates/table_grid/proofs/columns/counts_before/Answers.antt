@@ -1,5 +1,4 @@
-use Rattle.std.proofs.Common.{◌≡◌, arith, length}
-use Rattle.std.proofs.Common.{take_all, ap, ◌∙◌, count_by}
+use Rattle.std.proofs.Common.{◌≡◌, ◌∙◌, ap, arith, count_by, length, take_all}
 use Rattle.table_grid.specs.Grid.{has_size}
 use Rattle.table_grid.proofs.PartLemmas.{counts_all}
 use Rattle.table_grid.proofs.columns.counts_before.Goals as goal

@@ -1,8 +1,7 @@
-use Rattle.std.proofs.Common.{◌++◌, arith, subst, sym, List, map, take_all}
-use Rattle.std.proofs.Common.{eqb, ap, ◌∙◌}
+use Rattle.std.proofs.Common.{◌++◌, ◌∙◌, List, ap, arith, eqb, map, subst, sym, take_all}
 use Rattle.std.proofs.lemmas.List.Filters.{dedup_is}
-use Rattle.table_places.specs.declared.cell.PlacedCell.{PlacedCell}
-use Rattle.table_places.specs.Places.{left_of, right_of}
+use Rattle.table_grid.specs.declared.cell.PlacedCell.{PlacedCell}
+use Rattle.table_grid.specs.Places.{left_of, right_of}
 use Rattle.table_grid.specs.Grid.{AreEdges}
 use Rattle.table_grid.proofs.RankLemmas.{edges_are}
 use Rattle.table_grid.proofs.edges.edges_of.Goals as goal

@@ -1,5 +1,5 @@
 use Rattle.std.proofs.Common.{◌≡◌, ◌++◌, take, map}
-use Rattle.table_places.specs.Places.{left_of, right_of}
+use Rattle.table_grid.specs.Places.{left_of, right_of}
 use Rattle.table_grid.proofs.edges.edges_of.Given as goal
 
 abbrev pub invariant-loop-p : goal.invariant-loop-p

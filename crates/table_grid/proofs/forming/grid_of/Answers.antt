@@ -1,14 +1,13 @@
-use Rattle.std.proofs.Common.{◌≡◌, ℕ, ◌-◌, ◌<◌, ◌≤◌, arith, subst, sym, List, length, map, filter, ap, ◌∙◌}
-use Rattle.std.proofs.Common.{All}
+use Rattle.std.proofs.Common.{◌≡◌, ◌-◌, ◌<◌, ◌≤◌, ◌∙◌, All, List, ap, arith, filter, length, map, subst, sym, ℕ}
 use Rattle.std.specs.List.Sorted.{IsStrictlyIncreasing}
 use Rattle.std.proofs.lemmas.List.FromFn.{length-map-range_with_len}
 use Rattle.table_grid.specs.declared.edges.SpannedCell.{SpannedCell}
 use Rattle.table_grid.specs.declared.columns.Column.{Column}
-use Rattle.table_grid.specs.Grid.{AreEdges, span_in, span_left, column_at, columns_between, has_size, rows_with_cells}
-use Rattle.table_grid.specs.Grid.{grid_cell, gap_left, IsGrid}
+use Rattle.table_grid.specs.Grid.{AreEdges, IsGrid, column_at, columns_between, gap_left, grid_cell, has_size}
+use Rattle.table_grid.specs.Grid.{rows_with_cells, span_in, span_left}
 use Rattle.table_grid.specs.TheGrid.{grid}
-use Rattle.table_grid.proofs.GridLemmas.{spanned_some, spanned_within, rows_rise, gaps_right, gaps_left_within}
-use Rattle.table_grid.proofs.GridLemmas.{put_together}
+use Rattle.table_grid.proofs.GridLemmas.{gaps_left_within, gaps_right, put_together, rows_rise, spanned_some}
+use Rattle.table_grid.proofs.GridLemmas.{spanned_within}
 use Rattle.table_grid.proofs.SizeLemmas.{grid_sized}
 use Rattle.table_grid.proofs.forming.grid_of.Goals as goal
 

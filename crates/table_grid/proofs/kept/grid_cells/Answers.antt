@@ -1,5 +1,4 @@
-use Rattle.std.proofs.Common.{◌≡◌, ℕ, ◌+◌, ◌-◌, ◌++◌, ◌∷◌, [], arith, sym, List, map}
-use Rattle.std.proofs.Common.{take, ap, ◌∙◌, get_or}
+use Rattle.std.proofs.Common.{◌≡◌, ◌+◌, ◌-◌, ◌++◌, ◌∷◌, [], ◌∙◌, List, ap, arith, get_or, map, sym, take, ℕ}
 use Rattle.table_grid.specs.declared.edges.SpannedCell.{SpannedCell}
 use Rattle.std.proofs.lemmas.List.{take_more, map-append}
 use Rattle.table_grid.specs.declared.grid.GridCell.{GridCell}

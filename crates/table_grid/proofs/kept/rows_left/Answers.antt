@@ -1,5 +1,4 @@
-use Rattle.std.proofs.Common.{arith, List, map}
-use Rattle.std.proofs.Common.{take_all, ap, ◌∙◌, eqb, filter}
+use Rattle.std.proofs.Common.{◌∙◌, List, ap, arith, eqb, filter, map, take_all}
 use Rattle.std.specs.List.{dedup}
 use Rattle.std.proofs.lemmas.List.Filters.{dedup_is}
 use Rattle.table_grid.specs.declared.edges.SpannedCell.{SpannedCell}

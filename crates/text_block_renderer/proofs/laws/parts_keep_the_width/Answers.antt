@@ -1,11 +1,11 @@
 use Rattle.std.specs.Prelude.{⊤}
 use Rattle.std.proofs.lemmas.List.Elements.{All-nil}
 use Rattle.std.proofs.lemmas.Option.{MatchOption-at_some}
-use Rattle.text_marks.specs.Marks.{link_start, link_end}
-use Rattle.renderer_laws.proofs.OptionLemmas.{known}
-use Rattle.renderer_calls.specs.Renderers.{add_inline, begin_link, finish_link}
-use Rattle.renderer_calls.specs.Calls.{adds_text, starts_link, ends_link}
-use Rattle.renderer_laws.specs.RendererLaws.{IsKeptWithin, StaysWithin}
+use Rattle.text_decorators.specs.Marks.{link_start, link_end}
+use Rattle.block_layout_laws.proofs.OptionLemmas.{known}
+use Rattle.block_trait.specs.Renderers.{add_inline, begin_link, finish_link}
+use Rattle.block_trait.specs.Calls.{adds_text, starts_link, ends_link}
+use Rattle.block_laws.specs.RendererLaws.{IsKeptWithin, StaysWithin}
 use Rattle.text_block_renderer.specs.PartLaws.{PartsStayWithin}
 use Rattle.text_block_renderer.proofs.LinkLaws.{LinkWidths, begins, ends, link_stays, end_stays}
 use Rattle.text_block_renderer.proofs.laws.parts_keep_the_width.Goals as goal

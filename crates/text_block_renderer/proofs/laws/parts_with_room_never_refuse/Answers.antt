@@ -1,9 +1,9 @@
 use Rattle.std.proofs.lemmas.List.Elements.{All-nil}
-use Rattle.text_marks.specs.Marks.{link_start}
-use Rattle.renderer_calls.specs.Calls.{adds_text, starts_link, ends_link}
-use Rattle.renderer_laws.specs.RendererLaws.{HasRoom}
-use Rattle.text_block_renderer.proofs.LinkLaws.{LinkRooms, begins_with_room, ends_with_room, link_never_refused}
-use Rattle.text_block_renderer.proofs.LinkLaws.{end_never_refused}
+use Rattle.text_decorators.specs.Marks.{link_start}
+use Rattle.block_trait.specs.Calls.{adds_text, starts_link, ends_link}
+use Rattle.block_laws.specs.RendererLaws.{HasRoom}
+use Rattle.text_block_renderer.proofs.LinkLaws.{LinkRooms, begins_with_room, end_never_refused, ends_with_room}
+use Rattle.text_block_renderer.proofs.LinkLaws.{link_never_refused}
 use Rattle.text_block_renderer.proofs.laws.parts_with_room_never_refuse.Goals as goal
 
 pub returns : goal.returns

@@ -1,7 +1,7 @@
 use Rattle.std.proofs.Common.{◌++◌, ap, ◌∙◌, chars, string_bytes}
 use Rattle.std.specs.Prelude.{encode_utf8}
 use Rattle.std.proofs.lemmas.Str.{chars-append, IsUtf8-string_bytes}
-use Rattle.tagged_lines.proofs.Joins.{chars_of_one}
+use Rattle.text_lines.proofs.Joins.{chars_of_one}
 use Rattle.text_borders.proofs.border.push_character.Goals as goal
 
 pub returns : goal.returns

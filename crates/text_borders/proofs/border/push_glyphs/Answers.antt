@@ -1,8 +1,8 @@
 use Rattle.std.proofs.Common.{sym, ap, ◌∙◌, ◌++◌, map}
 use Rattle.std.proofs.lemmas.Result.{on_ok_weaker}
 use Rattle.std.proofs.lemmas.List.{length-map}
-use Rattle.tagged_lines.specs.Columns.{text_columns}
-use Rattle.tagged_lines.specs.Tagged.{line_items, tagged}
+use Rattle.text_lines.specs.Columns.{text_columns}
+use Rattle.text_lines.specs.Tagged.{line_items, tagged}
 use Rattle.text_borders.specs.Segments.{glyph_of, segment_of}
 use Rattle.text_borders.proofs.BorderLemmas.{glyph_columns}
 use Rattle.text_borders.proofs.border.push_glyphs.Goals as goal

@@ -1,5 +1,5 @@
 use Rattle.std.proofs.Common.{sym, ap, ◌∙◌, ◌++◌, map, append-nil}
-use Rattle.tagged_lines.specs.Tagged.{line_items, tagged, character}
+use Rattle.text_lines.specs.Tagged.{line_items, tagged, character}
 use Rattle.text_borders.specs.Segments.{segment_of}
 use Rattle.text_borders.specs.Borders.{line_above}
 use Rattle.text_borders.proofs.SegmentLemmas.{nothing_left, more_pushed}

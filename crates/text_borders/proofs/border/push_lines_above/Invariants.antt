@@ -1,5 +1,5 @@
 use Rattle.std.proofs.Common.{◌≡◌, ◌++◌, map, length}
-use Rattle.tagged_lines.specs.Tagged.{line_items, tagged, IsJoined}
+use Rattle.text_lines.specs.Tagged.{line_items, tagged, IsJoined}
 use Rattle.text_borders.specs.Segments.{segment_of}
 use Rattle.text_borders.specs.Borders.{line_above}
 use Rattle.text_borders.proofs.border.push_lines_above.Given as goal

@@ -1,5 +1,5 @@
 use Rattle.std.proofs.Common.{sym, ap, ◌∙◌, ◌++◌, ◌-◌, map}
-use Rattle.tagged_lines.specs.Tagged.{line_items}
+use Rattle.text_lines.specs.Tagged.{line_items}
 use Rattle.text_borders.specs.Segments.{segment_of}
 use Rattle.text_borders.specs.Borders.{hole_of, shown_from}
 use Rattle.text_borders.proofs.SegmentLemmas.{front_is, rest_is, more_shown}
@@ -16,7 +16,7 @@ loop-hole-preserved g c =
           (map (hole_of seen) c.in-Some.others.now) old _ _
           (front_is _ _ c.front_of-front.result.now c.loop-hole.rest.now c.front_of-front.ensures c.saturating_sub.ensures)
           c.in_ok-end.ensures
-          (rest_is _ _ c.behind_of-rest.result.now c.loop-hole.rest.now c.behind_of-rest.ensures
+          (rest_is _ _ c.after_of-rest.result.now c.loop-hole.rest.now c.after_of-rest.ensures
           (c.saturating_sub-in-Some.ensures ∙ ap (λ n. n - c.loop-hole.at) c.in_ok-end.ensures))
           c.in_ok-push_glyphs.ensures.items c.in_ok-push_line.ensures.ok
           ∙ ap (λ hs. old ++ shown_from tag c.loop-hole.at (map segment_of c.loop-hole.rest.now)

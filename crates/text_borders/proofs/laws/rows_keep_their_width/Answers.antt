@@ -1,5 +1,5 @@
-use Rattle.text_borders.proofs.AcrossLemmas.{row_lines_columns, row_below_columns, row_below_width, row_below_sound}
-use Rattle.text_borders.proofs.AcrossLemmas.{row_above_width, row_above_sound, row_hanging_fit}
+use Rattle.text_borders.proofs.AcrossLemmas.{row_above_sound, row_above_width, row_below_columns, row_below_sound}
+use Rattle.text_borders.proofs.AcrossLemmas.{row_below_width, row_hanging_fit, row_lines_columns}
 use Rattle.text_borders.proofs.laws.rows_keep_their_width.Goals as goal
 
 pub returns-clause-lines : goal.returns-clause-lines

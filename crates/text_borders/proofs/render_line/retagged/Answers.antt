@@ -1,7 +1,7 @@
 use Rattle.std.proofs.Common.{[], ◌++◌, ap, ◌∙◌, chars}
 use Rattle.std.proofs.lemmas.Iterator.{YieldsList-from_slice}
 use Rattle.std.proofs.lemmas.Iterator.Consumers.{YieldsList-turn, YieldsList-end}
-use Rattle.tagged_lines.specs.Tagged.{line_items, line_elements, tagged}
+use Rattle.text_lines.specs.Tagged.{line_items, line_elements, tagged}
 use Rattle.text_pieces.proofs.ElementLemmas.{next_made, all_made}
 use Rattle.text_borders.specs.Across.{retagged}
 use Rattle.text_borders.proofs.RetagLemmas.{retagged-append, element_retagged}

@@ -1,5 +1,5 @@
 use Rattle.std.proofs.Common.{◌≡◌, ◌++◌, [], length, take}
-use Rattle.tagged_lines.specs.Tagged.{line_items, elements_items, line_elements, IsJoined}
+use Rattle.text_lines.specs.Tagged.{line_items, elements_items, line_elements, IsJoined}
 use Rattle.text_borders.specs.Across.{retagged}
 use Rattle.text_borders.proofs.render_line.retagged.Given as goal
 

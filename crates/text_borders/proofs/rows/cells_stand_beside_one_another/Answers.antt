@@ -1,6 +1,6 @@
 use Rattle.std.proofs.Common.{refl}
 use Rattle.unicode_width.specs.Width.{char_width}
-use Rattle.tagged_lines.specs.Columns.{columns_of, width_of}
+use Rattle.text_lines.specs.Columns.{columns_of, width_of}
 use Rattle.text_borders.proofs.rows.cells_stand_beside_one_another.Goals as goal
 
 pub returns-clause-cells : goal.returns-clause-cells

@@ -3,13 +3,13 @@ use Rattle.std.specs.Prelude.{fold}
 use Rattle.std.specs.Option.{option_map}
 use Rattle.text_borders.specs.Segments.{with_up, with_down}
 use Rattle.text_borders.specs.Borders.{border_of, horizontal, plain, stretched, change_to, with_segments}
-use Rattle.text_borders.specs.Across.{row_width, signs, of_cells, row_height, row_lines, with_holes}
-use Rattle.text_borders.specs.Across.{hanging_of as left_of}
-use Rattle.tagged_lines.specs.Tagged.{line_items}
+use Rattle.text_borders.specs.Across.{hanging_of as left_of, of_cells, row_height, row_lines, row_width, signs}
+use Rattle.text_borders.specs.Across.{with_holes}
+use Rattle.text_lines.specs.Tagged.{line_items}
 use Rattle.text_cells.specs.Cells.{cell_of, hanging_of}
 use Rattle.text_cells.specs.OpenCells.{open_cell_of, after}
-use Rattle.text_cells.proofs.WholeRow.{given_is, written, cells_are, above_is, below_is, lines_are, holes_are}
-use Rattle.text_cells.proofs.WholeRow.{hanging_are, row_is}
+use Rattle.text_cells.proofs.WholeRow.{above_is, below_is, cells_are, given_is, hanging_are, holes_are, lines_are}
+use Rattle.text_cells.proofs.WholeRow.{row_is, written}
 use Rattle.text_cells.proofs.across.lay_each.Goals as goal
 
 pub returns-clause-row : goal.returns-clause-row

@@ -8,7 +8,7 @@ use Rattle.text_borders.specs.Borders.{border_of, horizontal, plain, stretched, 
 use Rattle.text_borders.specs.Across.{row_width, signs, of_cells, is_given, opened, row_of}
 use Rattle.text_cells.specs.Cells.{cell_of, hanging_of, block_lines_of}
 use Rattle.text_cells.specs.OpenCells.{open_cell_of}
-use Rattle.tagged_lines.specs.Tagged.{line_items}
+use Rattle.text_lines.specs.Tagged.{line_items}
 use Rattle.text_cells.proofs.WholeRow.{given_is}
 use Rattle.text_cells.proofs.AloneLemmas.{rows_hold, items_are, opened_by, row_alone, only_one}
 use Rattle.text_cells.proofs.alone.lay_alone.Goals as goal

@@ -1,6 +1,6 @@
 use Rattle.std.proofs.Common.{map, ap, ◌∙◌}
 use Rattle.std.proofs.lemmas.List.{map_push}
-use Rattle.tagged_lines.specs.Tagged.{line_items}
+use Rattle.text_lines.specs.Tagged.{line_items}
 use Rattle.text_borders.specs.Borders.{border_of}
 use Rattle.text_cells.specs.Cells.{hanging_of}
 use Rattle.text_cells.specs.OpenCells.{open_cell_of}

@@ -1,6 +1,6 @@
 use Rattle.std.proofs.Common.{◌≡◌, ◌+◌, ◌-◌, ◌<◌, ◌++◌, map, length, drop, sym, ap, refl, ◌∙◌, arith}
 use Rattle.std.proofs.lemmas.List.{length-drop, length-map}
-use Rattle.tagged_lines.specs.Tagged.{line_items}
+use Rattle.text_lines.specs.Tagged.{line_items}
 use Rattle.text_borders.specs.Across.{cell_items}
 use Rattle.text_cells.specs.OpenCells.{open_cell_of, after}
 use Rattle.text_cells.proofs.RowLemmas.{cells_all, changed_more, items_all, more_text, still_there}

@@ -2,7 +2,7 @@ use Rattle.std.proofs.Common.{map, ap, sym, subst, ◌∙◌, arith}
 use Rattle.std.specs.Prelude.{All}
 use Rattle.std.proofs.lemmas.List.Elements.{All-nil, All-push}
 use Rattle.std.proofs.lemmas.List.{map_push}
-use Rattle.tagged_lines.specs.Tagged.{line_items, IsJoined}
+use Rattle.text_lines.specs.Tagged.{line_items, IsJoined}
 use Rattle.text_borders.specs.Across.{row_lines}
 use Rattle.text_cells.specs.OpenCells.{after, open_cell_of}
 use Rattle.text_cells.proofs.RowLemmas.{lines_more, after_more, after_none}

@@ -1,8 +1,7 @@
 use Rattle.std.proofs.Common.{◌++◌, map, sym, ap, ◌∙◌, arith}
 use Rattle.std.proofs.lemmas.Bool.Decides.{nat_tests}
-use Rattle.std.proofs.lemmas.List.{nil_from_length}
+use Rattle.std.proofs.lemmas.List.{map_push, nil_from_length}
 use Rattle.std.specs.Vec.Iter.{into_iter_items}
-use Rattle.std.proofs.lemmas.List.{map_push}
 use Rattle.text_borders.specs.Across.{seated}
 use Rattle.text_cells.specs.Cells.{cell_of, hanging_of}
 use Rattle.text_cells.proofs.SeatingLemmas.{more_seated, none_hangs}

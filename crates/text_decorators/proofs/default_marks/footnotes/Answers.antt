@@ -1,5 +1,5 @@
 use Rattle.std.proofs.Common.{arith, ap, map, length}
-use Rattle.tagged_lines.specs.Tagged.{line_items}
+use Rattle.text_lines.specs.Tagged.{line_items}
 use Rattle.text_decorators.proofs.Numbering.{preserved, finished}
 use Rattle.text_decorators.proofs.default_marks.footnotes.Goals as goal
 

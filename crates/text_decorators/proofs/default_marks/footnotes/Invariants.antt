@@ -1,5 +1,5 @@
 use Rattle.std.proofs.Common.{◌≡◌, map, take, length, chars, string_bytes}
-use Rattle.tagged_lines.specs.Tagged.{line_items, tagged}
+use Rattle.text_lines.specs.Tagged.{line_items, tagged}
 use Rattle.text_decorators.specs.Texts.{footnote_texts}
 use Rattle.text_decorators.proofs.default_marks.footnotes.Given as goal
 

@@ -1,5 +1,5 @@
 use Rattle.std.proofs.Common.{◌∙◌}
-use Rattle.tagged_lines.specs.Tagged.{line_elements}
+use Rattle.text_lines.specs.Tagged.{line_elements}
 use Rattle.text_pieces.proofs.CharacterLemmas.{filled_text}
 use Rattle.text_pieces.proofs.characters.has_text.Goals as goal
 

@@ -2,7 +2,7 @@ use Rattle.std.proofs.Common.{◌++◌, [], ap, ◌∙◌, chars, string_bytes}
 use Rattle.std.proofs.lemmas.List.{map-append}
 use Rattle.std.proofs.lemmas.Iterator.{YieldsList-from_slice}
 use Rattle.std.proofs.lemmas.Iterator.Consumers.{YieldsList-turn, YieldsList-end}
-use Rattle.tagged_lines.specs.Tagged.{line_elements}
+use Rattle.text_lines.specs.Tagged.{line_elements}
 use Rattle.text_pieces.specs.Items.{markers_of}
 use Rattle.text_pieces.specs.Sources.{names}
 use Rattle.text_pieces.proofs.ElementLemmas.{next_made, all_made, markers_of-append}

@@ -1,5 +1,5 @@
 use Rattle.std.proofs.Common.{◌≡◌, ◌++◌, [], length, take}
-use Rattle.tagged_lines.specs.Tagged.{elements_items, line_elements}
+use Rattle.text_lines.specs.Tagged.{elements_items, line_elements}
 use Rattle.text_pieces.specs.Items.{markers_of}
 use Rattle.text_pieces.specs.Sources.{names}
 use Rattle.text_pieces.proofs.markers.names_before.Given as goal

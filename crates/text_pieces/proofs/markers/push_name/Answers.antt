@@ -1,5 +1,5 @@
 use Rattle.std.proofs.Common.{◌++◌, sym, ap, ◌∙◌, append-nil, chars, string_bytes}
-use Rattle.tagged_lines.specs.Tagged.{element_items}
+use Rattle.text_lines.specs.Tagged.{element_items}
 use Rattle.text_pieces.specs.Items.{markers_of}
 use Rattle.text_pieces.specs.Sources.{names}
 use Rattle.text_pieces.proofs.ElementLemmas.{markers_of-tagged}

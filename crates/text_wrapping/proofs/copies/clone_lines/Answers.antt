@@ -1,4 +1,4 @@
-use Rattle.tagged_lines.specs.Tagged.{line_items, IsJoined}
+use Rattle.text_lines.specs.Tagged.{line_items, IsJoined}
 use Rattle.text_wrapping.proofs.CopyLemmas.{copied_items, copied_all}
 use Rattle.text_wrapping.proofs.copies.clone_lines.Goals as goal
 

@@ -1,6 +1,6 @@
 use Rattle.std.proofs.Common.{◌≡◌, ◌++◌, map, length}
 use Rattle.std.specs.Prelude.{All}
-use Rattle.tagged_lines.specs.Tagged.{line_items, IsJoined}
+use Rattle.text_lines.specs.Tagged.{line_items, IsJoined}
 use Rattle.text_wrapping.proofs.copies.clone_lines.Given as goal
 
 abbrev pub invariant-loop-line : goal.invariant-loop-line

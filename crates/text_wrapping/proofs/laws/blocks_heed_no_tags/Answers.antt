@@ -1,5 +1,5 @@
-use Rattle.text_wrapping.proofs.BlockRetagged.{added_retagged, marked_retagged, ended_retagged, taken_retagged}
-use Rattle.text_wrapping.proofs.BlockRetagged.{broken_retagged, columns_retagged, ended_lines_retagged}
+use Rattle.text_wrapping.proofs.BlockRetagged.{added_retagged, broken_retagged, columns_retagged, ended_lines_retagged}
+use Rattle.text_wrapping.proofs.BlockRetagged.{ended_retagged, marked_retagged, taken_retagged}
 use Rattle.text_wrapping.proofs.laws.blocks_heed_no_tags.Goals as goal
 
 pub returns-clause-added : goal.returns-clause-added

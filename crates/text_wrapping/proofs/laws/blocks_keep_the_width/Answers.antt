@@ -1,7 +1,7 @@
 use Rattle.std.proofs.Common.{ℕ, ◌≤◌, List, [], refl}
 use Rattle.std.specs.Prelude.{All}
 use Rattle.std.proofs.lemmas.List.Elements.{All-nil}
-use Rattle.tagged_lines.specs.Tagged.{Item, line_columns}
+use Rattle.text_lines.specs.Tagged.{Item, line_columns}
 use Rattle.text_wrapping.proofs.BlockWidths.{FitLaws, ended_within, added_within, lines_within}
 use Rattle.text_wrapping.proofs.laws.blocks_keep_the_width.Goals as goal
 

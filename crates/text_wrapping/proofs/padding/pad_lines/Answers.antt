@@ -1,6 +1,6 @@
 use Rattle.std.proofs.Common.{length, ap, refl, arith}
 use Rattle.std.specs.Prelude.{Some}
-use Rattle.tagged_lines.specs.Tagged.{line_items, IsJoined}
+use Rattle.text_lines.specs.Tagged.{line_items, IsJoined}
 use Rattle.text_wrapping.specs.Blocks.{padded}
 use Rattle.text_wrapping.proofs.NormalPadding.{views_more, all_views, joined_more, all_joined}
 use Rattle.text_wrapping.proofs.padding.pad_lines.Goals as goal

@@ -1,6 +1,6 @@
 use Rattle.std.proofs.Common.{◌≡◌, ◌++◌, map, take, drop}
 use Rattle.std.specs.Prelude.{Some, All}
-use Rattle.tagged_lines.specs.Tagged.{line_items, IsJoined}
+use Rattle.text_lines.specs.Tagged.{line_items, IsJoined}
 use Rattle.text_wrapping.specs.Blocks.{padded}
 use Rattle.text_wrapping.proofs.padding.pad_lines.Given as goal
 

@@ -1,5 +1,5 @@
 use Rattle.std.proofs.Common.{◌≡◌, nat_lt, fold, map, length}
-use Rattle.tagged_lines.specs.Tagged.{line_items, line_columns}
+use Rattle.text_lines.specs.Tagged.{line_items, line_columns}
 use Rattle.text_wrapping.specs.Blocks.{ends_in_columns}
 use Rattle.text_wrapping.proofs.showing.ends_in_columns.Given as goal
 

@@ -1,7 +1,7 @@
 use Rattle.std.proofs.Common.{◌≡◌, map, length}
 use Rattle.std.specs.Prelude.{nat_lt}
 use Rattle.std.specs.List.{list_any}
-use Rattle.tagged_lines.specs.Tagged.{line_items, line_columns}
+use Rattle.text_lines.specs.Tagged.{line_items, line_columns}
 use Rattle.text_wrapping.proofs.showing.have_columns.Given as goal
 
 abbrev pub invariant-loop-line : goal.invariant-loop-line

@@ -1,6 +1,6 @@
 use Rattle.std.proofs.Common.{◌≡◌, ◌++◌, length}
 use Rattle.text_pieces.specs.Sources.{names, sources_of}
-use Rattle.preserved_text.specs.Preserved.{names_of}
+use Rattle.text_preserved.specs.Preserved.{names_of}
 use Rattle.text_wrapping.proofs.text_block.names_of.Given as goal
 
 abbrev pub invariant-loop-first : goal.invariant-loop-first

@@ -1,7 +1,7 @@
 use Rattle.std.proofs.Common.{sym, ap, ◌∙◌, ◌++◌, append-nil, chars}
 use Rattle.std.specs.Prelude.{string_bytes}
 use Rattle.text_pieces.specs.Sources.{names, piece_sources, wrap_seen}
-use Rattle.preserved_text.specs.Preserved.{names_of}
+use Rattle.text_preserved.specs.Preserved.{names_of}
 use Rattle.text_wrapping.proofs.BlockLemmas.{names_sourced}
 use Rattle.text_wrapping.proofs.text_block.push_name.Goals as goal
 

@@ -1,8 +1,8 @@
 use Rattle.std.proofs.Common.{ap, ◌∙◌, Err}
-use Rattle.article_answers.proofs.ToldLines.{same_error, told_answer, told_narrow}
+use Rattle.article_answers.proofs.EmittedLines.{same_error, emitted_answer, emitted_narrow}
 use Rattle.article_answers.proofs.layout.ArticleLayArticle.layout.Goals as goal
 use Rattle.article_answers.specs.ArticleAnswers.{options_for}
-use Rattle.article_laying.specs.Settings.{options_of}
+use Rattle.article_layout.specs.Settings.{options_of}
 use Rattle.article_values.specs.Views.{blocks_view}
 use Rattle.page_config.specs.Settings.{bare_setting}
 use Rattle.page_config.specs.declared.error.Error.TheVariants as errors
@@ -18,7 +18,7 @@ returns-in-Ok-clause-page c = λ bytes answer is utf8 text has.
       utf8 = utf8;
       text = text;
     }) has
-    ∙ told_answer (options_for setting) (options_of c.line_options-options.result) c.args.width blocks
+    ∙ emitted_answer (options_for setting) (options_of c.line_options-options.result) c.args.width blocks
     (blocks_view c.blocks-2.result.now) c.in-Ok.lines.items c.line_options-options.ensures
     (ap blocks_view c.blocks-2.ensures.blocks) c.in-Ok.ensures.lines
 
@@ -33,6 +33,6 @@ returns-in-Err-clause-narrow_page c = λ refused bytes answer is utf8 text has.
       utf8 = utf8;
       text = text;
     }) has
-    ∙ told_narrow (options_for setting) (options_of c.line_options-options.result) c.args.width blocks
+    ∙ emitted_narrow (options_for setting) (options_of c.line_options-options.result) c.args.width blocks
     (blocks_view c.blocks-2.result.now) c.line_options-options.ensures (ap blocks_view c.blocks-2.ensures.blocks)
     (c.in-Err.ensures.narrow (ap Err (c.refusal.ensures.narrow (same_error c.refusal.result errors.TooNarrow refused))))

@@ -1,9 +1,9 @@
 use Rattle.std.proofs.Common.{true, subst, ap, ◌∙◌, OnErr, OnOk}
-use Rattle.html_serializer.specs.Walks.{walk_text}
-use Rattle.html_serializer.specs.Writing.{Grows, GrowsPart}
-use Rattle.html_serializer.specs.declared.options.SerializeOpts.{SerializeOpts}
+use Rattle.tree_serializer.specs.Walks.{walk_text}
+use Rattle.tree_serializer.specs.Writing.{Grows, GrowsPart}
+use Rattle.tree_serializer.specs.declared.options.SerializeOpts.{SerializeOpts}
 use Rattle.article_values.specs.Views.{blocks_view}
-use Rattle.written_articles.specs.Contents.{article_tree}
+use Rattle.article_writing.specs.Contents.{article_tree}
 use Rattle.article_writing.proofs.writing.ArticleWriteArticle.write_html.Goals as goal
 
 pub returns-clause-ok : goal.returns-clause-ok

@@ -1,6 +1,6 @@
 use Rattle.std.proofs.Common.{rules}
 use Rattle.std.specs.Vec.Iter.{into_iter_items}
-use Rattle.tagged_lines.specs.Tagged.{IsJoined}
+use Rattle.text_lines.specs.Tagged.{IsJoined}
 use Rattle.block_layout.proofs.JoinedLemmas.{next_joined}
 use Rattle.block_layout.proofs.block.BlockLayout.add_each_line.Goals as goal
 

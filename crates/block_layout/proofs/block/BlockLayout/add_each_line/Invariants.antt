@@ -1,7 +1,7 @@
 use Rattle.std.proofs.Common.{◌≡◌, map}
 use Rattle.std.specs.Prelude.{All}
 use Rattle.std.specs.Vec.Iter.{into_iter_items}
-use Rattle.tagged_lines.specs.Tagged.{line_items, IsJoined}
+use Rattle.text_lines.specs.Tagged.{line_items, IsJoined}
 use Rattle.block_layout.specs.LaidRows.{add_row_lines}
 use Rattle.block_layout.specs.Seen.{laid_of, HasJoinedTexts}
 use Rattle.block_layout.proofs.block.BlockLayout.add_each_line.Given as goal

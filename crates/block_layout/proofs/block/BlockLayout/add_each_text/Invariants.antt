@@ -1,5 +1,5 @@
 use Rattle.std.specs.Prelude.{◌≡◌, map, length}
-use Rattle.tagged_lines.specs.Tagged.{line_items}
+use Rattle.text_lines.specs.Tagged.{line_items}
 use Rattle.text_cells.specs.Cells.{texts_items}
 use Rattle.block_layout.specs.LaidRows.{add_row_lines}
 use Rattle.block_layout.specs.Seen.{laid_of, HasJoinedTexts}

@@ -2,7 +2,7 @@ use Rattle.std.proofs.Common.{◌∷◌, map, ap, sym, ◌∙◌}
 use Rattle.std.proofs.lemmas.Str.{chars-nil}
 use Rattle.std.specs.Option.{option_and_then}
 use Rattle.std.specs.Vec.Iter.{into_iter_items}
-use Rattle.renderer_calls.specs.Renderers.{append_sub, add_below}
+use Rattle.block_trait.specs.Renderers.{append_sub, add_below}
 use Rattle.block_renderer.specs.Seen.{sub_of}
 use Rattle.block_renderer.proofs.CellLemmas.{begun_below}
 use Rattle.block_renderer.proofs.sub_renderer.SubRenderer.add_all_below.Goals as goal

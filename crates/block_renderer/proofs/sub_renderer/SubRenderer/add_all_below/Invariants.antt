@@ -1,6 +1,6 @@
 use Rattle.std.proofs.Common.{◌≡◌, map}
 use Rattle.std.specs.Vec.Iter.{into_iter_items}
-use Rattle.renderer_calls.specs.Renderers.{add_below, add_first}
+use Rattle.block_trait.specs.Renderers.{add_below, add_first}
 use Rattle.block_renderer.specs.Seen.{sub_of, IsJoinedSub}
 use Rattle.block_renderer.proofs.sub_renderer.SubRenderer.add_all_below.Given as goal
 

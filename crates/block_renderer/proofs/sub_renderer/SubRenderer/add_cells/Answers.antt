@@ -4,7 +4,7 @@ use Rattle.std.proofs.Common.{ap, sym, ◌∙◌}
 use Rattle.std.proofs.lemmas.Result.{on_ok_weaker}
 use Rattle.text_cells.specs.Cells.{cell_of}
 use Rattle.block_layout.specs.LaidRows.{add_row}
-use Rattle.renderer_calls.specs.Renderers.{on_laid, with_cells}
+use Rattle.block_trait.specs.Renderers.{on_laid, with_cells}
 use Rattle.block_renderer.specs.Seen.{sub_of, tags_seen}
 use Rattle.block_renderer.proofs.sub_renderer.SubRenderer.add_cells.Goals as goal
 

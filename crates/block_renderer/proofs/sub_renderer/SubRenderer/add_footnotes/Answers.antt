@@ -1,7 +1,7 @@
 use Rattle.std.proofs.Common.{map}
-use Rattle.tagged_lines.specs.Tagged.{line_items}
+use Rattle.text_lines.specs.Tagged.{line_items}
 use Rattle.block_layout.specs.Laid.{flush}
-use Rattle.renderer_calls.specs.Renderers.{measure_of}
+use Rattle.block_trait.specs.Renderers.{measure_of}
 use Rattle.block_renderer.specs.Seen.{sub_of}
 use Rattle.block_renderer.proofs.FootnoteLemmas.{footnotes_done}
 use Rattle.block_renderer.proofs.sub_renderer.SubRenderer.add_footnotes.Goals as goal

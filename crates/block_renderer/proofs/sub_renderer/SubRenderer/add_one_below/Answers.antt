@@ -1,7 +1,7 @@
 use Rattle.std.proofs.Common.{[], ap, sym, ◌∙◌}
 use Rattle.std.proofs.lemmas.Result.{on_ok_weaker}
 use Rattle.std.proofs.lemmas.Str.{chars-nil}
-use Rattle.renderer_calls.specs.Renderers.{append_sub}
+use Rattle.block_trait.specs.Renderers.{append_sub}
 use Rattle.block_renderer.specs.Seen.{sub_of}
 use Rattle.block_renderer.proofs.sub_renderer.SubRenderer.add_one_below.Goals as goal
 

@@ -1,6 +1,6 @@
 use Rattle.std.proofs.Common.{chars, sym, ◌∙◌, arith}
 use Rattle.std.proofs.lemmas.Bool.Decides.{nat_tests}
-use Rattle.block_layout.proofs.WordLemmas.{empty_text}
+use Rattle.text_normal.proofs.WordLemmas.{empty_text}
 use Rattle.block_layout.specs.Seen.{laid_of}
 use Rattle.block_renderer.specs.Seen.{sub_of, tags_seen, marking}
 use Rattle.block_renderer.proofs.InlineLemmas.{empty_plain}

@@ -1,6 +1,6 @@
 use Rattle.std.proofs.Common.{chars, sym, ap, ◌∙◌}
 use Rattle.std.proofs.lemmas.Result.{on_ok_weaker}
-use Rattle.renderer_calls.specs.Renderers.{add_inline}
+use Rattle.block_trait.specs.Renderers.{add_inline}
 use Rattle.block_renderer.specs.Seen.{marking}
 use Rattle.block_renderer.proofs.sub_renderer.SubRenderer.begin.Goals as goal
 

@@ -1,6 +1,6 @@
 use Rattle.std.proofs.Common.{◌≡◌, fold, map}
 use Rattle.std.specs.Vec.Iter.{into_iter_items}
-use Rattle.tagged_lines.specs.Tagged.{line_items}
+use Rattle.text_lines.specs.Tagged.{line_items}
 use Rattle.block_renderer.specs.Footnotes.{with_footnote}
 use Rattle.block_renderer.specs.Seen.{sub_of, IsJoinedSub}
 use Rattle.block_renderer.proofs.sub_renderer.SubRenderer.put_footnotes.Given as goal

@@ -1,5 +1,5 @@
 use Rattle.std.proofs.Common.{chars, sym, ◌∙◌}
-use Rattle.known_names.proofs.NameLemmas.{found_at}
+use Rattle.lex_base.proofs.NameLemmas.{found_at}
 use Rattle.html_lexemes.proofs.names.LocalName.from_str.Goals as goal
 
 pub returns-in-Some : goal.returns-in-Some

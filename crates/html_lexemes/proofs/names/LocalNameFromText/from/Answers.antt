@@ -1,6 +1,6 @@
 use Rattle.std.proofs.Common.{sym, ap, ◌∙◌}
-use Rattle.known_names.specs.Known.{known_at}
-use Rattle.known_names.proofs.NameLemmas.{found_at}
+use Rattle.lex_base.specs.Known.{known_at}
+use Rattle.lex_base.proofs.NameLemmas.{found_at}
 use Rattle.html_lexemes.proofs.names.LocalNameFromText.from.Goals as goal
 
 pub returns-in-Some : goal.returns-in-Some

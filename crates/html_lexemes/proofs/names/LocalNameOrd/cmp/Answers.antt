@@ -1,5 +1,5 @@
 use Rattle.std.proofs.Common.{◌∙◌, sym}
-use Rattle.reference_tables.proofs.Utf8Order.{order_of_bytes}
+use Rattle.lex_base.proofs.Utf8Order.{order_of_bytes}
 use Rattle.html_lexemes.proofs.names.LocalNameOrd.cmp.Goals as goal
 
 pub returns : goal.returns

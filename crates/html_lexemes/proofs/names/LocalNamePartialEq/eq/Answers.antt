@@ -1,7 +1,7 @@
 use Rattle.std.proofs.Common.{◌≡◌, ◌∙◌, sym, subst}
 use Rattle.html_lexemes.specs.Names.{name_of, name_text}
 use Rattle.html_lexemes.proofs.NameLemmas.{other_is_none}
-use Rattle.known_names.proofs.NameLemmas.{apart_back, same_known}
+use Rattle.lex_base.proofs.NameLemmas.{apart_back, same_known}
 use Rattle.html_lexemes.proofs.names.LocalNamePartialEq.eq.Goals as goal
 
 pub returns-in-Known-name : goal.returns-in-Known-name

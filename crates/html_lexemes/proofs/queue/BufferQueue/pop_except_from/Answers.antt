@@ -1,5 +1,5 @@
-use Rattle.std.proofs.Common.{◌≡◌, ◌<◌, ◌++◌, IsTrue, false, sym, ap, subst, ◌∙◌, chars, length}
-use Rattle.std.proofs.Common.{slice_get, string_bytes}
+use Rattle.std.proofs.Common.{◌≡◌, ◌<◌, ◌++◌, ◌∙◌, IsTrue, ap, chars, false, length, slice_get, string_bytes, subst}
+use Rattle.std.proofs.Common.{sym}
 use Rattle.std.proofs.lemmas.Str.{chars-nil}
 use Rattle.html_lexemes.specs.Queue.{Queue, is_free_of, is_in}
 use Rattle.html_lexemes.proofs.RunLemmas.{is_in-any}

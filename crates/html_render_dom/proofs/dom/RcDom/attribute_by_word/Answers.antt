@@ -1,7 +1,7 @@
 use Rattle.std.proofs.Common.{ap, sym, ◌∙◌, chars}
 use Rattle.std.specs.Option.{option_map}
-use Rattle.html_forest.specs.Forest.{element_of}
-use Rattle.tree_words.specs.Attributes.{value_of}
+use Rattle.tree_forest.specs.Forest.{element_of}
+use Rattle.tree_predicates.specs.Attributes.{value_of}
 use Rattle.html_render_dom.specs.Numbers.{number_of}
 use Rattle.html_render_dom.proofs.LentLemmas.{document_past}
 use Rattle.html_render_dom.proofs.dom.RcDom.attribute_by_word.Goals as goal

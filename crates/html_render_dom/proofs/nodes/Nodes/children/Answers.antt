@@ -5,10 +5,10 @@ use Rattle.html_render_dom.proofs.nodes.Nodes.children.Goals as goal
 
 pub invariant_of-result : goal.invariant_of-result
 invariant_of-result c = all_left c.args.self.now (number_of c.args.target)
-    (option_map number_of c.child_behind-front.result) (option_map number_of c.child_before-back.result)
-    c.requires.linked c.child_behind-front.ensures c.child_before-back.ensures
+    (option_map number_of c.child_after-front.result) (option_map number_of c.child_before-back.result)
+    c.requires.linked c.child_after-front.ensures c.child_before-back.ensures
 
 pub returns : goal.returns
-returns c = left_children c.args.self.now (number_of c.args.target) (option_map number_of c.child_behind-front.result)
+returns c = left_children c.args.self.now (number_of c.args.target) (option_map number_of c.child_after-front.result)
     (option_map number_of c.child_before-back.result)
-    c.requires.linked c.child_behind-front.ensures c.child_before-back.ensures
+    c.requires.linked c.child_after-front.ensures c.child_before-back.ensures

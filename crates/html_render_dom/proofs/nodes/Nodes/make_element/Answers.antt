@@ -1,5 +1,5 @@
 use Rattle.std.proofs.Common.{option_map}
-use Rattle.html_forest.specs.Changes.{made_element}
+use Rattle.tree_forest.specs.Changes.{made_element}
 use Rattle.html_render_dom.specs.Nodes.{forest_of}
 use Rattle.html_render_dom.specs.Numbers.{number_of}
 use Rattle.html_render_dom.proofs.HeldForests.{element_held, template_held}

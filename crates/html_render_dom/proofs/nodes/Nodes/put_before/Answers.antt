@@ -1,7 +1,7 @@
 use Rattle.std.proofs.Common.{refl}
-use Rattle.html_forest.specs.Forest.{children_at}
-use Rattle.html_forest.specs.Places.{before, node, put_node}
-use Rattle.html_forest.proofs.LawLists.{standing}
+use Rattle.tree_forest.specs.Forest.{children_at}
+use Rattle.tree_forest.specs.Places.{before, node, put_node}
+use Rattle.tree_forest.proofs.LawLists.{standing}
 use Rattle.html_render_dom.specs.Nodes.{forest_of}
 use Rattle.html_render_dom.proofs.LinkedNodes.{noted_child}
 use Rattle.html_render_dom.proofs.HeldForests.{before_held, beside_held, no_parent, one_parent}

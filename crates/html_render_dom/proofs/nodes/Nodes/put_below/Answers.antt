@@ -1,6 +1,6 @@
 use Rattle.std.proofs.Common.{sym}
-use Rattle.html_forest.specs.Places.{below, node, put_node}
-use Rattle.html_forest.proofs.Nodes.{same_some}
+use Rattle.tree_forest.specs.Places.{below, node, put_node}
+use Rattle.tree_forest.proofs.Nodes.{same_some}
 use Rattle.html_render_dom.specs.Nodes.{forest_of}
 use Rattle.html_render_dom.proofs.HeldForests.{below_held, last_held}
 use Rattle.std.specs.Prelude.{option_map}

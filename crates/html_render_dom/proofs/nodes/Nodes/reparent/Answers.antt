@@ -1,11 +1,10 @@
 use Rattle.std.proofs.Common.{◌≡◌, inl, sym, ap, ◌∙◌, subst, Some, length, ◌<◌}
-use Rattle.html_forest.specs.Changes.{reparented}
-use Rattle.html_forest.specs.Orders.{IsIn}
+use Rattle.tree_forest.specs.Changes.{reparented}
+use Rattle.tree_forest.specs.Orders.{IsIn}
 use Rattle.html_render_dom.specs.Siblings.{given, holder, spot_of}
 use Rattle.html_render_dom.specs.Nodes.{forest_of, links_of}
 use Rattle.html_render_dom.proofs.HeldForests.{children_chain, children_followed, children_held, first_held}
-use Rattle.html_render_dom.proofs.HeldForests.{given_facts, given_held}
-use Rattle.html_render_dom.proofs.HeldForests.{last_held, no_first, none_given, starts_with}
+use Rattle.html_render_dom.proofs.HeldForests.{given_facts, given_held, last_held, no_first, none_given, starts_with}
 use Rattle.std.specs.Prelude.{option_map}
 use Rattle.html_render_dom.specs.Numbers.{number_of}
 use Rattle.html_render_dom.proofs.nodes.Nodes.reparent.Goals as goal

@@ -1,7 +1,7 @@
 use Rattle.std.proofs.Common.{is_some, chars, refl, sym, ap, ◌∙◌}
 use Rattle.std.proofs.lemmas.Result.{IfOk-weaker}
-use Rattle.html_forest.specs.Changes.{saying}
-use Rattle.html_forest.specs.Forest.{text_of}
+use Rattle.tree_forest.specs.Changes.{saying}
+use Rattle.tree_forest.specs.Forest.{text_of}
 use Rattle.html_render_dom.proofs.NodeLemmas.{forest_changed, node_read, node_with}
 use Rattle.html_render_dom.proofs.HeldNodes.{same_links}
 use Rattle.html_render_dom.specs.Nodes.{links_of, node_in}

@@ -1,6 +1,6 @@
 use Rattle.std.proofs.Common.{◌∙◌, chars, sym}
 use Rattle.std.proofs.lemmas.Result.{on_ok_weaker}
-use Rattle.html_forest.specs.Places.{below}
+use Rattle.tree_forest.specs.Places.{below}
 use Rattle.html_render_dom.specs.Nodes.{forest_of}
 use Rattle.html_render_dom.specs.Numbers.{number_of}
 use Rattle.html_render_dom.proofs.HeldForests.{last_is}

@@ -2,7 +2,7 @@ use Rattle.std.proofs.Common.{◌≡◌, Err, None, Some, ap, inr}
 use Rattle.std.proofs.lemmas.Result.{err_from_is_err_and}
 use Rattle.block_renderer.specs.Seen.{sub_of}
 use Rattle.render_conversion.specs.declared.error.RenderError.TheVariants.{TooNarrow}
-use Rattle.walk_laws.specs.SeenParts.{parts_of}
+use Rattle.text_block_renderer.specs.SeenParts.{parts_of}
 use Rattle.html_render_tree.proofs.BareLemmas.{or_else}
 use Rattle.html_render_tree.proofs.OptionLemmas.{bound_as, none_bound}
 use Rattle.html_render_tree.proofs.config.RenderConfig.closed.Goals as goal

@@ -2,7 +2,7 @@ use Rattle.std.proofs.Common.{◌≡◌, ◌∙◌, Err, Some, ap, inr}
 use Rattle.std.proofs.lemmas.Result.{err_from_is_err_and}
 use Rattle.block_renderer.specs.Seen.{marking, sub_of}
 use Rattle.render_conversion.specs.declared.error.RenderError.TheVariants.{TooNarrow}
-use Rattle.walk_laws.specs.SeenParts.{parts_of}
+use Rattle.text_block_renderer.specs.SeenParts.{parts_of}
 use Rattle.html_render_tree.specs.Settings.{setting_of}
 use Rattle.html_render_tree.proofs.BareLemmas.{BareLaws, closed_alike, never_alike, never_laid, or_else}
 use Rattle.html_render_tree.proofs.config.RenderConfig.closed_bare.Goals as goal

@@ -1,6 +1,5 @@
-use Rattle.std.proofs.Common.{subst}
+use Rattle.std.proofs.Common.{string_bytes, subst}
 use Rattle.html_render_tree.specs.Coloured.{AreColouredLines, Colours}
-use Rattle.std.proofs.Common.{string_bytes}
 use Rattle.html_render_tree.proofs.config.RenderConfig.render_coloured.Goals as goal
 
 pub returns-clause-text : goal.returns-clause-text

@@ -3,7 +3,7 @@ use Rattle.std.proofs.lemmas.Result.{err_from_is_err_and}
 use Rattle.std.specs.Option.{option_map}
 use Rattle.block_renderer.specs.Seen.{sub_of, tags_seen}
 use Rattle.render_conversion.specs.declared.error.RenderError.TheVariants.{TooNarrow}
-use Rattle.tagged_lines.specs.Tagged.{line_items}
+use Rattle.text_lines.specs.Tagged.{line_items}
 use Rattle.text_borders.specs.Lines.{line_shown}
 use Rattle.html_render_tree.specs.PageLines.{renderer_lines}
 use Rattle.html_render_tree.specs.Settings.{setting_of}

@@ -2,7 +2,7 @@ use Rattle.std.proofs.Common.{◌≡◌, Err, ap, inr, map}
 use Rattle.std.proofs.lemmas.Result.{err_from_is_err_and}
 use Rattle.block_renderer.specs.Seen.{marking, sub_of, tags_seen}
 use Rattle.render_conversion.specs.declared.error.RenderError.TheVariants.{TooNarrow}
-use Rattle.tagged_lines.specs.Tagged.{line_items}
+use Rattle.text_lines.specs.Tagged.{line_items}
 use Rattle.html_render_tree.specs.PageLines.{lines_text, renderer_lines}
 use Rattle.html_render_tree.specs.Settings.{setting_of}
 use Rattle.html_render_tree.proofs.BareLemmas.{TextLaws, lines_missing, or_else, printed_alike, text_shown}

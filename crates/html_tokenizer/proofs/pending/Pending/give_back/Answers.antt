@@ -1,7 +1,7 @@
 use Rattle.std.proofs.Common.{sym, ap, ◌∙◌, subst, string_bytes}
 use Rattle.std.proofs.lemmas.Str.{chars-nil}
 use Rattle.std.specs.Str.{chars}
-use Rattle.lexeme_places.specs.Sound.{IsSound}
+use Rattle.token_states.specs.Sound.{IsSound}
 use Rattle.html_tokenizer.proofs.pending.Pending.give_back.Goals as goal
 
 pub invariant_of-self : goal.invariant_of-self

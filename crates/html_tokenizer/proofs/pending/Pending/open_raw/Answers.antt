@@ -1,7 +1,7 @@
 use Rattle.std.proofs.Common.{◌∷◌, ◌++◌, [], ap, sym, ◌∙◌, string_bytes, subst}
 use Rattle.std.proofs.lemmas.Str.{IsUtf8-string_bytes}
-use Rattle.lexeme_places.specs.Sound.{IsSound}
-use Rattle.lexeme_places.specs.declared.place.Place.TheVariants.{RawText}
+use Rattle.token_states.specs.Sound.{IsSound}
+use Rattle.token_states.specs.declared.place.LexemeState.TheVariants.{RawText}
 use Rattle.html_tokenizer.proofs.ReadsLemmas.{held_none, pushed_one}
 use Rattle.html_tokenizer.proofs.pending.Pending.open_raw.Goals as goal
 

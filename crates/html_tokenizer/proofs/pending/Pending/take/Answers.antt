@@ -1,10 +1,10 @@
 use Rattle.std.proofs.Common.{[], refl, sym, ap, ◌∙◌, subst, string_bytes}
 use Rattle.std.proofs.lemmas.Str.{chars-nil}
 use Rattle.std.specs.Str.{chars}
-use Rattle.lexeme_places.specs.PlaceKinds.{IsPlaceOf}
-use Rattle.lexeme_places.specs.Sound.{IsSound}
-use Rattle.lexeme_places.specs.Turns.{IsOver, IsTaken}
-use Rattle.lexeme_places.specs.declared.turn.Turn.TheVariants.{Goes, Ends, EndsBefore}
+use Rattle.token_states.specs.PlaceKinds.{IsPlaceOf}
+use Rattle.token_states.specs.Sound.{IsSound}
+use Rattle.token_states.specs.Turns.{IsOver, IsTaken}
+use Rattle.token_states.specs.declared.turn.Turn.TheVariants.{Goes, Ends, EndsBefore}
 use Rattle.html_tokenizer.proofs.GoingLemmas.{ended_before, ended_untagged, going_sound}
 use Rattle.html_tokenizer.proofs.PendingLemmas.{kept, some_mode, turned}
 use Rattle.html_tokenizer.proofs.pending.Pending.take.Goals as goal

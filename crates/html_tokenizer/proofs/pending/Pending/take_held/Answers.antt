@@ -1,8 +1,8 @@
 use Rattle.std.proofs.Common.{refl, sym, ap, ◌∙◌, subst, string_bytes}
 use Rattle.std.proofs.lemmas.Str.{chars-nil}
 use Rattle.std.specs.Str.{chars}
-use Rattle.lexeme_places.specs.Sound.{IsSound}
-use Rattle.lexeme_places.specs.declared.place.Place.TheVariants.{CdataSection}
+use Rattle.token_states.specs.Sound.{IsSound}
+use Rattle.token_states.specs.declared.place.LexemeState.TheVariants.{CdataSection}
 use Rattle.html_tokenizer.proofs.pending.Pending.take_held.Goals as goal
 
 pub invariant_of-self : goal.invariant_of-self

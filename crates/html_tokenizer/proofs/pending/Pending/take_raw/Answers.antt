@@ -25,7 +25,7 @@ invariant_of-self-in-Shifts c =
     let t = subst (λ x. RawTurnsTo c.args.last.now c.args.kind (chars (string_bytes c.args.self.now.held)) c.args.c
     (chars (string_bytes c.raw_turn.new.held)) x) c.in-Shifts.is c.in-Ok.ensures in
     record {
-      sound = raw_going_held c.args.last.now c.in-Shifts.behind c.in-Shifts.next
+      sound = raw_going_held c.args.last.now c.in-Shifts.trailing c.in-Shifts.next
           (chars (string_bytes c.raw_turn.new.held)) (t some_table false (mode_with c.args.last.now) refl).1;
     }
 

@@ -1,13 +1,13 @@
 use Rattle.std.proofs.Common.{refl, sym, ◌∷◌, [], ◌++◌, string_bytes, subst}
 use Rattle.std.specs.Str.{chars}
-use Rattle.html_grammar.specs.Items.{characters}
-use Rattle.lexeme_places.specs.Places.{place_lexeme}
-use Rattle.html_tokenizer.specs.Tells.{Asks}
-use Rattle.lexeme_places.specs.Turns.{IsOver, IsUntagged}
+use Rattle.token_grammar.specs.Items.{characters}
+use Rattle.token_states.specs.Places.{place_lexeme}
+use Rattle.html_tokenizer.specs.Emits.{Asks}
+use Rattle.token_states.specs.Turns.{IsOver, IsUntagged}
 use Rattle.html_tokenizer.proofs.PauseMarks.{pause_mark}
 use Rattle.html_tokenizer.proofs.ReadsLemmas.{on_ok_map}
 use Rattle.html_tokenizer.proofs.ReadyLemmas.{placed_text}
-use Rattle.html_tokenizer.proofs.TellsLemmas.{if_ok_map, tells_same, tells_then}
+use Rattle.html_tokenizer.proofs.EmitsLemmas.{if_ok_map, emits_same, emits_then}
 use Rattle.html_tokenizer.specs.Reads.{Leaves}
 use Rattle.html_tokenizer.specs.Advances.{Advances, IsLeft, IsWithinKind}
 use Rattle.html_tokenizer.proofs.reader.Reader.advance.Goals as goal
@@ -40,7 +40,7 @@ returns-in_ok-begin-in-EndsBefore-clause-reads g c = λ place held a rest final 
 
 pub returns-in-Goes-clause-asks : goal.returns-in-Goes-clause-asks
 returns-in-Goes-clause-asks g c = λ place held a.
-    tells_same g.S.TokenSink.means (g.S.TokenSink.state c.args.sink.now) (g.S.TokenSink.state c.args.sink.now) refl
+    emits_same g.S.TokenSink.means (g.S.TokenSink.state c.args.sink.now) (g.S.TokenSink.state c.args.sink.now) refl
 
 pub returns-in_ok-begin-in-EndsBefore-clause-asks : goal.returns-in_ok-begin-in-EndsBefore-clause-asks
 returns-in_ok-begin-in-EndsBefore-clause-asks g c = λ place held a.
@@ -58,10 +58,10 @@ returns-in_ok-begin-in-EndsBefore-clause-asks g c = λ place held a.
     let untagged =
     subst (λ x. IsUntagged (place_lexeme table f r.mode x text)) (sym known.0)
     (subst (λ x. IsUntagged (place_lexeme table f r.mode place x)) (sym known.1.0) known.1.1.1) in
-    tells_then means s0 s1 s2
+    emits_then means s0 s1 s2
     (subst (λ x. Asks means x s0 s1) (c.in_ok-end_lexeme-in-EndsBefore.ensures.untagged untagged)
     c.in_ok-end_lexeme-in-EndsBefore.ensures.asks)
-    c.in_ok-begin-in-EndsBefore.ensures.tells
+    c.in_ok-begin-in-EndsBefore.ensures.emits
 
 pub end_lexeme-requires-clause-placed : goal.end_lexeme-requires-clause-placed
 end_lexeme-requires-clause-placed g c =

@@ -3,15 +3,15 @@ use Rattle.std.proofs.lemmas.Str.{chars-append, chars-nil, IsUtf8-string_bytes}
 use Rattle.std.proofs.lemmas.Bool.{ne_eqb}
 use Rattle.std.specs.Prelude.{not}
 use Rattle.std.specs.Str.{chars}
-use Rattle.html_grammar.specs.Items.{characters}
-use Rattle.lexeme_places.specs.Sound.{IsSound}
+use Rattle.token_grammar.specs.Items.{characters}
+use Rattle.token_states.specs.Sound.{IsSound}
 use Rattle.html_tokenizer.proofs.PendingLemmas.{some_table}
 use Rattle.html_tokenizer.proofs.RawReads.{begun_plain, section_character, section_null}
 use Rattle.html_tokenizer.proofs.ReadsLemmas.{on_ok_map, on_ok_two}
 use Rattle.html_tokenizer.proofs.reader.Reader.read_section_text.Goals as goal
 
-pub returns-then-c-eq0-clause-told : goal.returns-then-c-eq0-clause-told
-returns-then-c-eq0-clause-told g c =
+pub returns-then-c-eq0-clause-emitted : goal.returns-then-c-eq0-clause-emitted
+returns-then-c-eq0-clause-emitted g c =
     let r = c.args.self.now in
     let held = chars (string_bytes r.pending.held) in
     let sound = subst (λ x. IsSound x held) c.requires.place r.pending.sound in
@@ -19,15 +19,15 @@ returns-then-c-eq0-clause-told g c =
     ap chars (c.in_ok-push_str.ensures.bytes ∙ ap (λ x. string_bytes r.run ++ x)
     (c.as_str.ensures.value ∙ ap string_bytes c.take_held-held.ensures.taken)) ∙
     chars-append (string_bytes r.run) (string_bytes r.pending.held) (IsUtf8-string_bytes r.run) in
-    on_ok_two c.tell_null.result c.tell_null.ensures.told c.tell_null.ensures.run (λ t n.
+    on_ok_two c.emit_null.result c.emit_null.ensures.emitted c.emit_null.ensures.run (λ t n.
     section_null some_table g.S.TokenSink.means held (chars (string_bytes r.run))
-    (chars (string_bytes c.push_str.new.self)) (chars (string_bytes c.tell_null.new.self.run)) c.args.c
-    (g.S.TokenSink.state c.args.sink.now) (g.S.TokenSink.state c.tell_null.new.sink)
+    (chars (string_bytes c.push_str.new.self)) (chars (string_bytes c.emit_null.new.self.run)) c.args.c
+    (g.S.TokenSink.state c.args.sink.now) (g.S.TokenSink.state c.emit_null.new.sink)
     g.met.S.TokenSink.lawful.joins g.met.S.TokenSink.lawful.skips
     (begun_plain (93 ∷ 93 ∷ 62 ∷ []) held sound refl) pushed c.if-c-eq0.true t (ap chars n ∙ chars-nil))
 
-pub returns-clause-told : goal.returns-clause-told
-returns-clause-told g c =
+pub returns-clause-emitted : goal.returns-clause-emitted
+returns-clause-emitted g c =
     let r = c.args.self.now in
     let held = chars (string_bytes r.pending.held) in
     let sound = subst (λ x. IsSound x held) c.requires.place r.pending.sound in
@@ -35,7 +35,7 @@ returns-clause-told g c =
     ap chars (c.in_ok-push_str.ensures.bytes ∙ ap (λ x. string_bytes r.run ++ x)
     (c.as_str.ensures.value ∙ ap string_bytes c.take_held-held.ensures.taken)) ∙
     chars-append (string_bytes r.run) (string_bytes r.pending.held) (IsUtf8-string_bytes r.run) in
-    on_ok_map c.read_text.result c.read_text.ensures.told (λ t.
+    on_ok_map c.read_text.result c.read_text.ensures.emitted (λ t.
     section_character some_table g.S.TokenSink.means held (chars (string_bytes r.run))
     (chars (string_bytes c.push_str.new.self)) c.args.c (g.S.TokenSink.state c.args.sink.now)
     (g.S.TokenSink.means.step (g.S.TokenSink.state c.read_text.new.sink)

@@ -1,14 +1,14 @@
 use Rattle.std.proofs.Common.{◌≡◌, Bool, IfSome, MatchOption, ap, sym, ◌∙◌, ◌∷◌, string_bytes, subst}
 use Rattle.std.specs.Str.{chars}
-use Rattle.html_grammar.specs.Items.{characters}
-use Rattle.html_grammar.specs.declared.modes.Mode.{Mode}
+use Rattle.token_grammar.specs.Items.{characters}
+use Rattle.token_grammar.specs.declared.modes.Mode.{Mode}
 use Rattle.html_tokenizer.specs.Advances.{Advances, StaysWithinKind}
-use Rattle.lexeme_places.specs.PlaceKinds.{IsNoMarkup, IsPlaceOf, IsWithinMarkup}
+use Rattle.token_states.specs.PlaceKinds.{IsNoMarkup, IsPlaceOf, IsWithinMarkup}
 use Rattle.html_tokenizer.specs.declared.pending.Pending.{Pending}
-use Rattle.lexeme_places.specs.declared.place.Place.TheVariants.{MarkupDeclarationOpen}
+use Rattle.token_states.specs.declared.place.LexemeState.TheVariants.{MarkupDeclarationOpen}
 use Rattle.html_tokenizer.proofs.RawReads.{in_section}
 use Rattle.html_tokenizer.proofs.ReadsLemmas.{leaves_same, on_ok_map}
-use Rattle.html_tokenizer.proofs.TellsLemmas.{asks_behind, if_ok_map, tells_then}
+use Rattle.html_tokenizer.proofs.EmitsLemmas.{asks_after, if_ok_map, emits_then}
 use Rattle.html_tokenizer.proofs.reader.Reader.take_in_markup.Goals as goal
 
 pub returns-in-Some-clause-reads : goal.returns-in-Some-clause-reads
@@ -109,9 +109,9 @@ returns-in-Some-clause-asks g c =
     ap g.S.TokenSink.means.foreign c.in_ok-foreign.ensures.state ∙ c.in_ok-foreign.ensures.foreign
     (sym (ap (λ (p : Pending). p.place) c.is_foreign.ensures.pending) ∙ e) in
     if_ok_map c.advance.result c.advance.ensures.asks (λ pause f.
-    asks_behind g.S.TokenSink.means pause (g.S.TokenSink.state c.args.sink.now)
+    asks_after g.S.TokenSink.means pause (g.S.TokenSink.state c.args.sink.now)
     (g.S.TokenSink.state c.is_foreign.new.sink)
-    (g.S.TokenSink.state c.advance.new.sink) c.in_ok-foreign.ensures.tells
+    (g.S.TokenSink.state c.advance.new.sink) c.in_ok-foreign.ensures.emits
     (f now.pending.place (chars (string_bytes now.pending.held))
     (known (g.S.TokenSink.means.foreign t) now.mode asked_for)))
 
@@ -138,9 +138,9 @@ returns-in-Some-clause-greater g c =
 
 pub returns-in_ok-take_in_section-in-None-clause-asks : goal.returns-in_ok-take_in_section-in-None-clause-asks
 returns-in_ok-take_in_section-in-None-clause-asks g c =
-    tells_then g.S.TokenSink.means (g.S.TokenSink.state c.args.sink.now) (g.S.TokenSink.state c.is_foreign.new.sink)
+    emits_then g.S.TokenSink.means (g.S.TokenSink.state c.args.sink.now) (g.S.TokenSink.state c.is_foreign.new.sink)
     (g.S.TokenSink.state c.take_in_section.new.sink)
-    c.in_ok-foreign.ensures.tells c.in_ok-take_in_section-in-None.ensures.tells
+    c.in_ok-foreign.ensures.emits c.in_ok-take_in_section-in-None.ensures.emits
 
 pub advance-requires-clause-placed : goal.advance-requires-clause-placed
 advance-requires-clause-placed g c =

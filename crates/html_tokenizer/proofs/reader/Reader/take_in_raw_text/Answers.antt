@@ -1,15 +1,15 @@
 use Rattle.std.proofs.Common.{false, refl, ap, sym, ◌∙◌, ◌++◌, string_bytes, subst}
 use Rattle.std.proofs.lemmas.Str.{chars-append, IsUtf8-string_bytes}
 use Rattle.std.specs.Str.{chars}
-use Rattle.html_grammar.specs.Items.{characters}
+use Rattle.token_grammar.specs.Items.{characters}
 use Rattle.html_tokenizer.specs.Advances.{RawAdvances}
-use Rattle.lexeme_places.specs.PlaceKinds.{IsPlaceOf, IsWithinMarkup}
-use Rattle.html_grammar.specs.declared.modes.TextKind.TheVariants.{Raw}
-use Rattle.html_grammar.proofs.KindLemmas.{ready_of}
+use Rattle.token_states.specs.PlaceKinds.{IsPlaceOf, IsWithinMarkup}
+use Rattle.token_grammar.specs.declared.modes.TextKind.TheVariants.{Raw}
+use Rattle.token_grammar.proofs.KindLemmas.{ready_of}
 use Rattle.html_tokenizer.proofs.GoingLemmas.{within_markup}
 use Rattle.html_tokenizer.proofs.PendingLemmas.{raw_place, some_table}
 use Rattle.html_tokenizer.proofs.RawReads.{raw_before, raw_end_tag, raw_goes, raw_shifts}
-use Rattle.html_tokenizer.proofs.TellsLemmas.{tells_same}
+use Rattle.html_tokenizer.proofs.EmitsLemmas.{emits_same}
 use Rattle.html_tokenizer.proofs.reader.Reader.take_in_raw_text.Goals as goal
 
 pub begin-requires-clause-place : goal.begin-requires-clause-place
@@ -41,7 +41,7 @@ returns-in_ok-begin-in-Before-clause-reads g c = λ table rest final l.
     (λ x. RawAdvances table false r.mode c.in-RawText.kind
     (chars (string_bytes r.pending.held)) c.args.c x now.place (chars (string_bytes now.held))) c.in-Before.is
     (c.in_ok-take_raw.ensures table false r.mode refl) in
-    raw_before table g.S.TokenSink.means r.mode c.in-RawText.kind c.in-Before.behind c.in-RawText.place r.pending.place
+    raw_before table g.S.TokenSink.means r.mode c.in-RawText.kind c.in-Before.trailing c.in-RawText.place r.pending.place
     now.place (chars (string_bytes r.pending.held)) (chars (string_bytes now.held))
     (chars (string_bytes c.in-Before.text)) (chars (string_bytes r.run))
     (chars (string_bytes c.push_str.new.self)) c.args.c rest
@@ -59,7 +59,7 @@ returns-in_ok-push_str-in-Shifts-clause-reads g c = λ table rest final l.
     (λ x. RawAdvances table false r.mode c.in-RawText.kind
     (chars (string_bytes r.pending.held)) c.args.c x now.place (chars (string_bytes now.held))) c.in-Shifts.is
     (c.in_ok-take_raw.ensures table false r.mode refl) in
-    raw_shifts table g.S.TokenSink.means r.mode c.in-RawText.kind c.in-Shifts.behind c.in-RawText.place r.pending.place
+    raw_shifts table g.S.TokenSink.means r.mode c.in-RawText.kind c.in-Shifts.trailing c.in-RawText.place r.pending.place
     now.place (chars (string_bytes r.pending.held)) (chars (string_bytes now.held)) (chars c.in-Shifts.text.now)
     (chars (string_bytes r.run)) (chars (string_bytes c.push_str-in-Shifts.new.self)) c.args.c rest
     (g.S.TokenSink.state c.args.sink.now) final g.met.S.TokenSink.lawful.joins g.met.S.TokenSink.lawful.skips
@@ -91,17 +91,17 @@ returns-in-EndTag-clause-reads g c = λ table rest final l.
     (chars (string_bytes r.pending.held)) (chars (string_bytes now.held)) c.args.c rest s final
     (sym c.place.ensures ∙ c.in-RawText.is) a.1 a.0 l
 
-pub returns-in-Goes-clause-tells : goal.returns-in-Goes-clause-tells
-returns-in-Goes-clause-tells g c =
-    tells_same g.S.TokenSink.means (g.S.TokenSink.state c.args.sink.now) (g.S.TokenSink.state c.args.sink.now) refl
+pub returns-in-Goes-clause-emits : goal.returns-in-Goes-clause-emits
+returns-in-Goes-clause-emits g c =
+    emits_same g.S.TokenSink.means (g.S.TokenSink.state c.args.sink.now) (g.S.TokenSink.state c.args.sink.now) refl
 
-pub returns-in_ok-push_str-in-Shifts-clause-tells : goal.returns-in_ok-push_str-in-Shifts-clause-tells
-returns-in_ok-push_str-in-Shifts-clause-tells g c =
-    tells_same g.S.TokenSink.means (g.S.TokenSink.state c.args.sink.now) (g.S.TokenSink.state c.args.sink.now) refl
+pub returns-in_ok-push_str-in-Shifts-clause-emits : goal.returns-in_ok-push_str-in-Shifts-clause-emits
+returns-in_ok-push_str-in-Shifts-clause-emits g c =
+    emits_same g.S.TokenSink.means (g.S.TokenSink.state c.args.sink.now) (g.S.TokenSink.state c.args.sink.now) refl
 
-pub returns-in-EndTag-clause-tells : goal.returns-in-EndTag-clause-tells
-returns-in-EndTag-clause-tells g c =
-    tells_same g.S.TokenSink.means (g.S.TokenSink.state c.args.sink.now) (g.S.TokenSink.state c.args.sink.now) refl
+pub returns-in-EndTag-clause-emits : goal.returns-in-EndTag-clause-emits
+returns-in-EndTag-clause-emits g c =
+    emits_same g.S.TokenSink.means (g.S.TokenSink.state c.args.sink.now) (g.S.TokenSink.state c.args.sink.now) refl
 
 pub returns-in-Goes-clause-holds : goal.returns-in-Goes-clause-holds
 returns-in-Goes-clause-holds g c = λ table _.
@@ -125,7 +125,7 @@ returns-in_default g c = record {
   placed = c.requires.placed;
   ready = c.requires.ready;
   holds = λ table e. absurd (let k = e in cc);
-  tells = tells_same g.S.TokenSink.means (g.S.TokenSink.state c.args.sink.now)
+  emits = emits_same g.S.TokenSink.means (g.S.TokenSink.state c.args.sink.now)
       (g.S.TokenSink.state c.args.sink.now) refl;
   place = λ _. within_markup c.args.self.now.pending.place c.requires.place
       (λ kind place e. c.in_default.not-RawText kind place (c.place.ensures ∙ e));
@@ -134,12 +134,12 @@ returns-in_default g c = record {
 
 pub begin-requires-clause-ready : goal.begin-requires-clause-ready
 begin-requires-clause-ready g c =
-    ready_of g.S.TokenSink.ready g.S.TokenSink.welcomes c.args.self.now.mode.text (Raw c.in-Before.behind)
+    ready_of g.S.TokenSink.ready g.S.TokenSink.welcomes c.args.self.now.mode.text (Raw c.in-Before.trailing)
     (g.S.TokenSink.state c.args.sink.now) (λ h. absurd h) c.requires.ready
 
 pub returns-in_ok-push_str-in-Shifts-clause-ready : goal.returns-in_ok-push_str-in-Shifts-clause-ready
 returns-in_ok-push_str-in-Shifts-clause-ready g c =
-    ready_of g.S.TokenSink.ready g.S.TokenSink.welcomes c.args.self.now.mode.text (Raw c.in-Shifts.behind)
+    ready_of g.S.TokenSink.ready g.S.TokenSink.welcomes c.args.self.now.mode.text (Raw c.in-Shifts.trailing)
     (g.S.TokenSink.state c.args.sink.now) (λ h. absurd h) c.requires.ready
 
 pub returns-in-Goes-clause-placed : goal.returns-in-Goes-clause-placed
@@ -160,7 +160,7 @@ returns-in_ok-push_str-in-Shifts-clause-placed g c =
     (λ x. RawAdvances some_table false r.mode c.in-RawText.kind
     (chars (string_bytes r.pending.held)) c.args.c x now.place (chars (string_bytes now.held))) c.in-Shifts.is
     (c.in_ok-take_raw.ensures some_table false r.mode refl) in
-    raw_place (Raw c.in-Shifts.behind) c.in-Shifts.behind now.place a.1.0
+    raw_place (Raw c.in-Shifts.trailing) c.in-Shifts.trailing now.place a.1.0
 
 pub returns-in-EndTag-clause-placed : goal.returns-in-EndTag-clause-placed
 returns-in-EndTag-clause-placed g c =

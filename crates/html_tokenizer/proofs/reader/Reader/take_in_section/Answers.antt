@@ -1,16 +1,16 @@
 use Rattle.std.proofs.Common.{refl, ap, sym, ◌∙◌, ◌∷◌, [], ◌++◌, map, string_bytes, subst}
 use Rattle.std.proofs.lemmas.Str.{IsUtf8-string_bytes}
 use Rattle.std.specs.Str.{chars}
-use Rattle.html_grammar.specs.Items.{characters}
-use Rattle.html_grammar.specs.Lexemes.{ordinary_item}
+use Rattle.token_grammar.specs.Items.{characters}
+use Rattle.token_grammar.specs.Lexemes.{ordinary_item}
 use Rattle.std.specs.List.{fold}
 use Rattle.html_tokenizer.specs.Reads.{Leaves}
-use Rattle.lexeme_places.specs.SectionTurns.{SectionAdvances}
+use Rattle.token_states.specs.SectionTurns.{SectionAdvances}
 use Rattle.html_tokenizer.proofs.GoingLemmas.{section_going}
 use Rattle.html_tokenizer.proofs.PendingLemmas.{some_mode}
 use Rattle.html_tokenizer.proofs.RawReads.{section_more, section_on}
 use Rattle.html_tokenizer.proofs.ReadsLemmas.{on_ok_four, pushed_one}
-use Rattle.html_tokenizer.proofs.TellsLemmas.{tells_same}
+use Rattle.html_tokenizer.proofs.EmitsLemmas.{emits_same}
 use Rattle.html_tokenizer.proofs.reader.Reader.take_in_section.Goals as goal
 
 pub read_section_text-requires-clause-place : goal.read_section_text-requires-clause-place
@@ -57,7 +57,7 @@ returns-in-Text-clause-reads g c =
     let a = subst (λ x. SectionAdvances r.mode held c.args.c x now.place (chars (string_bytes now.held))) c.in-Text.is
     (c.in_ok-take_in_section.ensures r.mode) in
     let s = g.S.TokenSink.means.step s0 (characters (chars (string_bytes r.run))) in
-    on_ok_four c.read_section_text.result c.read_section_text.ensures.told c.read_section_text.ensures.mode
+    on_ok_four c.read_section_text.result c.read_section_text.ensures.emitted c.read_section_text.ensures.mode
     c.read_section_text.ensures.place c.read_section_text.ensures.held (λ t m p h table rest final l.
     section_more table g.S.TokenSink.means r.mode r.pending.place after.pending.place held
     (chars (string_bytes after.pending.held)) [] c.args.c rest (map ordinary_item (held ++ c.args.c ∷ []))
@@ -76,9 +76,9 @@ returns-in-Goes-clause-holds g c = λ table.
     (chars (string_bytes r.pending.held)) c.args.c c.in_ok-take_in_section.field-0 now.place
     (chars (string_bytes now.held)) (c.in_ok-take_in_section.ensures r.mode) now.sound
 
-pub returns-in-Goes-clause-tells : goal.returns-in-Goes-clause-tells
-returns-in-Goes-clause-tells g c =
-    tells_same g.S.TokenSink.means (g.S.TokenSink.state c.args.sink.now) (g.S.TokenSink.state c.args.sink.now) refl
+pub returns-in-Goes-clause-emits : goal.returns-in-Goes-clause-emits
+returns-in-Goes-clause-emits g c =
+    emits_same g.S.TokenSink.means (g.S.TokenSink.state c.args.sink.now) (g.S.TokenSink.state c.args.sink.now) refl
 
 pub returns-in_ok-push-in-Shifts-clause-holds : goal.returns-in_ok-push-in-Shifts-clause-holds
 returns-in_ok-push-in-Shifts-clause-holds g c = λ table.
@@ -88,6 +88,6 @@ returns-in_ok-push-in-Shifts-clause-holds g c = λ table.
     (chars (string_bytes r.pending.held)) c.args.c c.in_ok-take_in_section.field-0 now.place
     (chars (string_bytes now.held)) (c.in_ok-take_in_section.ensures r.mode) now.sound
 
-pub returns-in_ok-push-in-Shifts-clause-tells : goal.returns-in_ok-push-in-Shifts-clause-tells
-returns-in_ok-push-in-Shifts-clause-tells g c =
-    tells_same g.S.TokenSink.means (g.S.TokenSink.state c.args.sink.now) (g.S.TokenSink.state c.args.sink.now) refl
+pub returns-in_ok-push-in-Shifts-clause-emits : goal.returns-in_ok-push-in-Shifts-clause-emits
+returns-in_ok-push-in-Shifts-clause-emits g c =
+    emits_same g.S.TokenSink.means (g.S.TokenSink.state c.args.sink.now) (g.S.TokenSink.state c.args.sink.now) refl

@@ -1,7 +1,7 @@
 use Rattle.std.proofs.Common.{◌≡◌, ◌++◌, ap, sym, subst, string_bytes}
 use Rattle.std.specs.Str.{chars}
-use Rattle.html_grammar.specs.Items.{characters}
-use Rattle.html_tokenizer.proofs.RunLemmas.{going_held, lines_behind, run_held}
+use Rattle.token_grammar.specs.Items.{characters}
+use Rattle.html_tokenizer.proofs.RunLemmas.{going_held, lines_after, run_held}
 use Rattle.html_tokenizer.specs.PageRest.{page_rest}
 use Rattle.html_tokenizer.specs.Reads.{Leaves, state_of}
 use Rattle.html_tokenizer.proofs.tokenizer.Tokenizer.hold_run.Goals as goal
@@ -37,7 +37,7 @@ returns-clause-takes g c =
           let left = page_rest c.args.self.now.line_ends rest in
           let same : page_rest c.args.self.now.line_ends (cs ++ rest) ≡ cs ++ left =
           subst (λ ends. page_rest ends (cs ++ rest) ≡ cs ++ page_rest ends rest) (sym c.requires.ends)
-          (lines_behind cs rest none) in
+          (lines_after cs rest none) in
           subst (λ x. Leaves table means r.mode place (held ++ x) (state_of means r state) final) (sym same)
           (run_held table means r.mode now.mode place now.pending.place held (chars (string_bytes now.pending.held))
           cs left (state_of means r state) (state_of means now state) final c.hold_run.ensures.mode

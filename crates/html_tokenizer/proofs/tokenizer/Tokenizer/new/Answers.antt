@@ -1,9 +1,9 @@
 use Rattle.std.proofs.Common.{◌≡◌, ap, ◌∙◌, string_bytes, subst}
 use Rattle.std.proofs.lemmas.Str.{chars-nil}
 use Rattle.std.specs.Str.{chars}
-use Rattle.html_grammar.specs.FirstMode.{first_mode}
-use Rattle.html_grammar.specs.Items.{characters}
-use Rattle.html_grammar.specs.Reading.{Reading}
+use Rattle.token_grammar.specs.FirstMode.{first_mode}
+use Rattle.token_grammar.specs.Items.{characters}
+use Rattle.token_grammar.specs.Reading.{Reading}
 use Rattle.html_tokenizer.specs.Completes.{Completes}
 use Rattle.html_tokenizer.specs.PageRest.{page_rest}
 use Rattle.html_tokenizer.proofs.ReadsLemmas.{held_none, reading_of}

@@ -3,7 +3,7 @@ use Rattle.html_tokenizer.specs.Completes.{TakesSome}
 use Rattle.html_tokenizer.specs.Fits.{IsFitReader}
 use Rattle.html_tokenizer.specs.Inside.{Completes}
 use Rattle.html_tokenizer.specs.Holdings.{Holds}
-use Rattle.html_tokenizer.specs.Tells.{TellsOn}
+use Rattle.html_tokenizer.specs.Emits.{EmitsOn}
 use Rattle.html_tokenizer.proofs.PauseMarks.{HasTaken}
 use Rattle.html_tokenizer.proofs.tokenizer.Tokenizer.read.Given as goal
 
@@ -13,7 +13,7 @@ invariant-characters g l = record {
   table : l.self.table ≡ l.fn.self.table;
   over : l.self.is_over ≡ true;
   holds : Holds l.self.table l.self.reader;
-  tells : TellsOn g.Sink.TokenSink.means (g.Sink.TokenSink.state l.fn.self.sink) (g.Sink.TokenSink.state l.self.sink);
+  emits : EmitsOn g.Sink.TokenSink.means (g.Sink.TokenSink.state l.fn.self.sink) (g.Sink.TokenSink.state l.self.sink);
   shorter : length l.queue.text ≤ length l.fn.queue.text;
   takes : TakesSome l.fn.queue l.queue;
   taken : HasTaken (Completes g.Sink.TokenSink.state g.Sink.TokenSink.means l.fn.self)

@@ -1,8 +1,8 @@
 use Rattle.std.proofs.Common.{ap, ◌∙◌, string_bytes, subst}
 use Rattle.std.proofs.lemmas.Str.{chars-nil}
 use Rattle.std.specs.Str.{chars}
-use Rattle.html_grammar.specs.Items.{characters}
-use Rattle.html_grammar.specs.Reading.{Reading}
+use Rattle.token_grammar.specs.Items.{characters}
+use Rattle.token_grammar.specs.Reading.{Reading}
 use Rattle.html_tokenizer.specs.Completes.{Completes, is_text_state, last_start_tag_of, nothing_pending, table_of}
 use Rattle.html_tokenizer.specs.Completes.{text_left}
 use Rattle.html_tokenizer.specs.PageRest.{page_rest}

@@ -1,6 +1,6 @@
 use Rattle.std.proofs.Common.{◌≡◌, ◌++◌, ap, sym, ◌∙◌, subst, string_bytes}
 use Rattle.std.specs.Str.{chars}
-use Rattle.html_grammar.specs.Items.{characters}
+use Rattle.token_grammar.specs.Items.{characters}
 use Rattle.html_tokenizer.proofs.ReadsLemmas.{held_none, leaves_same}
 use Rattle.html_tokenizer.proofs.RunLemmas.{free_lines, free_text, run_taken}
 use Rattle.html_tokenizer.specs.PageRest.{page_rest}
@@ -20,8 +20,8 @@ returns-clause-takes g c =
     let place = r.pending.place in
     let pops = c.in_ok-take_run.ensures.run in
     let cs = pops.cs in
-    let behind_run = means.step (means.step state (characters run)) (characters cs) in
-    let told = ap (λ x. means.step state (characters x)) pops.appended ∙ sym (joins state run cs) in
+    let after_run = means.step (means.step state (characters run)) (characters cs) in
+    let emitted = ap (λ x. means.step state (characters x)) pops.appended ∙ sym (joins state run cs) in
     record {
       taken = cs;
       takes = pops.takes;
@@ -34,7 +34,7 @@ returns-clause-takes g c =
           (run_taken table means r.mode place held cs left (means.step state (characters run)) final
           joins g.met.Sink.TokenSink.lawful.skips
           c.requires.place (held_none r.pending c.requires.place) (free_text r.mode.text cs pops.free)
-          (leaves_same table means r.mode now.mode r.pending now.pending left behind_run
+          (leaves_same table means r.mode now.mode r.pending now.pending left after_run
           (means.step state (characters (chars (string_bytes now.run)))) final
-          c.take_run.ensures.mode c.take_run.ensures.pending told l));
+          c.take_run.ensures.mode c.take_run.ensures.pending emitted l));
     }

@@ -3,7 +3,7 @@ use Rattle.html_tokenizer.specs.Completes as tokenizers
 use Rattle.html_tree_builder.proofs.ReadLemmas.{read_on}
 use Rattle.html_tree_builder.proofs.parser.Parser.process.Goals as goal
 use Rattle.html_tree_builder.specs.Parsers.{Completes, state_in}
-use Rattle.tree_rules.specs.Settling.{meaning}
+use Rattle.rules_table.specs.Settling.{meaning}
 
 pub returns-clause-reads : goal.returns-clause-reads
 unfolding Completes

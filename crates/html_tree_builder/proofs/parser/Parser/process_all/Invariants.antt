@@ -3,7 +3,7 @@ use Rattle.std.specs.Vec.Iter.{into_iter_items}
 use Rattle.html_tokenizer.specs.Pieces.{joined}
 use Rattle.html_tree_builder.specs.Parsers.{Completes, IsFit, has_failed}
 use Rattle.html_tree_builder.proofs.parser.Parser.process_all.Given as goal
-use Rattle.tree_rules.specs.State.{State}
+use Rattle.rules_table.specs.State.{State}
 
 -- what is left of the pieces, read by the parser as it stands, is what the parser made of them at first
 abbrev pub invariant-pieces : goal.invariant-pieces

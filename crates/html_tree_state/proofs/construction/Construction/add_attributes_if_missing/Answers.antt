@@ -1,9 +1,9 @@
 use Rattle.std.proofs.Common.{refl, sym, subst}
-use Rattle.tree_building.specs.Building.{seen}
-use Rattle.tree_building.specs.Sound.{Sound}
-use Rattle.tree_building.proofs.CountsKept.{attributed_kept}
-use Rattle.tree_building.proofs.SeenLemmas.{seen_changed}
-use Rattle.tree_building.proofs.InsertedLemmas.{attributed_sound}
+use Rattle.tree_model.specs.Building.{seen}
+use Rattle.tree_model.specs.Sound.{Sound}
+use Rattle.tree_model.proofs.CountsKept.{attributed_kept}
+use Rattle.tree_model.proofs.SeenLemmas.{seen_changed}
+use Rattle.tree_model.proofs.InsertedLemmas.{attributed_sound}
 use Rattle.html_tree_state.proofs.construction.Construction.add_attributes_if_missing.Goals as goal
 
 pub returns-clause-seen : goal.returns-clause-seen

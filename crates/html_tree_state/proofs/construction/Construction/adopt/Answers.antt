@@ -1,9 +1,9 @@
 use Rattle.std.proofs.Common.{Option, ℕ, subst, sym}
-use Rattle.tree_building.specs.Adoption.{farther}
-use Rattle.tree_building.specs.Building.{seen}
-use Rattle.tree_building.specs.CanAdopt.{CanTakeOver, IsAncestor}
+use Rattle.tree_model.specs.Adoption.{farther}
+use Rattle.tree_model.specs.Building.{seen}
+use Rattle.tree_model.specs.CanAdopt.{CanTakeOver, IsAncestor}
 use Rattle.html_tree_state.specs.Turns.{walk_of}
-use Rattle.tree_building.proofs.WalkLemmas.{is_ancestor, may_take_over}
+use Rattle.tree_model.proofs.WalkLemmas.{is_ancestor, may_take_over}
 use Rattle.html_tree_state.proofs.construction.Construction.adopt.Goals as goal
 
 pub place_last-requires-clause-sound : goal.place_last-requires-clause-sound

@@ -1,7 +1,7 @@
 use Rattle.std.proofs.Common.{◌≡◌, ap, sym, ◌∙◌, arith, if◌then◌else◌}
-use Rattle.tree_building.specs.Adoption.{turns}
-use Rattle.tree_building.specs.Building.{seen}
-use Rattle.tree_building.specs.Scopes.{popped}
+use Rattle.tree_model.specs.Adoption.{turns}
+use Rattle.tree_model.specs.Building.{seen}
+use Rattle.tree_model.specs.Scopes.{popped}
 use Rattle.html_tree_state.proofs.construction.Construction.adoption_agency.Goals as goal
 
 pub returns-clause-seen : goal.returns-clause-seen

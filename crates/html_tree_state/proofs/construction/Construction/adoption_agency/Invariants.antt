@@ -1,7 +1,7 @@
 use Rattle.std.proofs.Common.{◌≡◌}
-use Rattle.tree_building.specs.Adoption.{turns}
-use Rattle.tree_building.specs.Building.{seen}
-use Rattle.tree_building.specs.Sound.{Sound}
+use Rattle.tree_model.specs.Adoption.{turns}
+use Rattle.tree_model.specs.Building.{seen}
+use Rattle.tree_model.specs.Sound.{Sound}
 use Rattle.html_tree_state.proofs.construction.Construction.adoption_agency.Given as goal
 
 abbrev pub invariant-turns : goal.invariant-turns

@@ -1,10 +1,10 @@
 use Rattle.std.proofs.Common.{◌≡◌, List, IfOk, Some, ap, option_map, subst, sym, ◌∙◌}
-use Rattle.tree_building.specs.Entries.{entries_of, last_named, tag_in}
-use Rattle.tree_building.specs.FormatEntry.{FormatEntry}
-use Rattle.tree_building.specs.Adoption.{Turn}
-use Rattle.tree_building.specs.Building.{seen}
+use Rattle.tree_formatting.specs.Entries.{entries_of, last_named, tag_in}
+use Rattle.tree_formatting.specs.declared.entry.FormatEntry.{FormatEntry}
+use Rattle.tree_model.specs.Adoption.{Turn}
+use Rattle.tree_model.specs.Building.{seen}
 use Rattle.html_tree_state.specs.Turns.{turn_of}
-use Rattle.tree_building.proofs.TurnLemmas.{named_listed, turn_is_other_end, turn_is_over, turn_is_with}
+use Rattle.tree_model.proofs.TurnLemmas.{named_listed, turn_is_other_end, turn_is_over, turn_is_with}
 use Rattle.html_tree_state.proofs.construction.Construction.adoption_turn.Goals as goal
 
 pub returns-in_default-clause-turn : goal.returns-in_default-clause-turn

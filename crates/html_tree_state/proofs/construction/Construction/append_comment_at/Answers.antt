@@ -1,10 +1,10 @@
 use Rattle.std.proofs.Common.{sym, subst, ◌∙◌}
-use Rattle.tree_building.specs.Building.{seen}
-use Rattle.tree_building.specs.Points.{place_of}
-use Rattle.tree_building.specs.Sound.{Sound}
-use Rattle.tree_building.proofs.CountsKept.{comment_kept}
-use Rattle.tree_building.proofs.SeenLemmas.{seen_changed}
-use Rattle.tree_building.proofs.InsertedLemmas.{can_put_comment, commented_sound, put_comment}
+use Rattle.tree_model.specs.Building.{seen}
+use Rattle.tree_model.specs.Points.{place_of}
+use Rattle.tree_model.specs.Sound.{Sound}
+use Rattle.tree_model.proofs.CountsKept.{comment_kept}
+use Rattle.tree_model.proofs.SeenLemmas.{seen_changed}
+use Rattle.tree_model.proofs.InsertedLemmas.{can_put_comment, commented_sound, put_comment}
 use Rattle.html_tree_state.proofs.construction.Construction.append_comment_at.Goals as goal
 
 pub insert_at-requires : goal.insert_at-requires

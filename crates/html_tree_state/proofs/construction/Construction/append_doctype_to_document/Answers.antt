@@ -1,11 +1,11 @@
 use Rattle.std.proofs.Common.{ap, chars, refl, sym, subst, ◌∙◌}
 use Rattle.std.proofs.lemmas.Str.{chars-nil}
-use Rattle.tree_building.specs.Building.{seen}
-use Rattle.tree_building.specs.Insertions.{text_or_none}
-use Rattle.tree_building.specs.Sound.{Sound}
-use Rattle.tree_building.proofs.CountsKept.{doctype_kept}
-use Rattle.tree_building.proofs.SeenLemmas.{seen_changed}
-use Rattle.tree_building.proofs.InsertedLemmas.{doctype_is, doctyped_sound}
+use Rattle.tree_model.specs.Building.{seen}
+use Rattle.tree_model.specs.Insertions.{text_or_none}
+use Rattle.tree_model.specs.Sound.{Sound}
+use Rattle.tree_model.proofs.CountsKept.{doctype_kept}
+use Rattle.tree_model.proofs.SeenLemmas.{seen_changed}
+use Rattle.tree_model.proofs.InsertedLemmas.{doctype_is, doctyped_sound}
 use Rattle.html_tree_state.proofs.construction.Construction.append_doctype_to_document.Goals as goal
 
 pub returns-clause-seen : goal.returns-clause-seen

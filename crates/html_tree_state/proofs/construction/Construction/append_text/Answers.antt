@@ -1,11 +1,11 @@
 use Rattle.std.proofs.Common.{ap, ◌∙◌}
-use Rattle.html_forest.specs.Places.{put, words}
-use Rattle.tree_building.specs.Building.{Building, seen}
-use Rattle.tree_building.specs.Points.{place_of}
-use Rattle.tree_building.proofs.CountsKept.{said_kept}
-use Rattle.tree_building.proofs.SeenLemmas.{seen_changed}
-use Rattle.tree_building.proofs.InsertedLemmas.{said_at, said_sound}
-use Rattle.tree_building.proofs.SoundLemmas.{forest_left, on_ok, sound_left}
+use Rattle.tree_forest.specs.Places.{put, words}
+use Rattle.tree_model.specs.Building.{Building, seen}
+use Rattle.tree_model.specs.Points.{place_of}
+use Rattle.tree_model.proofs.CountsKept.{said_kept}
+use Rattle.tree_model.proofs.SeenLemmas.{seen_changed}
+use Rattle.tree_model.proofs.InsertedLemmas.{said_at, said_sound}
+use Rattle.tree_model.proofs.SoundLemmas.{forest_left, on_ok, sound_left}
 use Rattle.html_tree_state.proofs.construction.Construction.append_text.Goals as goal
 
 pub returns-clause-seen : goal.returns-clause-seen

@@ -1,10 +1,10 @@
 use Rattle.std.proofs.Common.{◌≡◌, rules, sym, ap, ap₂, subst, ◌∙◌}
-use Rattle.tree_building.specs.Adoption.{copied}
-use Rattle.tree_building.specs.Building.{Parts, are_counted, seen, stack_of}
-use Rattle.html_forest.specs.Forest.{Forest, name_of}
-use Rattle.tree_building.proofs.SeenLemmas.{seen_is}
-use Rattle.tree_building.specs.Sound.{Sound}
-use Rattle.tree_building.proofs.CopyLemmas.{can_put_copy, copied_forest, copied_kept, copied_names}
+use Rattle.tree_model.specs.Adoption.{copied}
+use Rattle.tree_model.specs.Building.{Parts, are_counted, seen, stack_of}
+use Rattle.tree_forest.specs.Forest.{Forest, name_of}
+use Rattle.tree_model.proofs.SeenLemmas.{seen_is}
+use Rattle.tree_model.specs.Sound.{Sound}
+use Rattle.tree_model.proofs.CopyLemmas.{can_put_copy, copied_forest, copied_kept, copied_names}
 use Rattle.html_tree_state.proofs.construction.Construction.copy_element.Goals as goal
 
 pub append-requires : goal.append-requires

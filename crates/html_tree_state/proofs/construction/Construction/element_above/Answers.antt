@@ -1,6 +1,6 @@
 use Rattle.std.proofs.Common.{◌≡◌, List, false, subst, sym}
-use Rattle.html_forest.specs.Forest.{is_in}
-use Rattle.tree_building.specs.Building.{stack_of}
+use Rattle.tree_forest.specs.Forest.{is_in}
+use Rattle.tree_model.specs.Building.{stack_of}
 use Rattle.html_tree_state.proofs.BlockWords.{none_above}
 use Rattle.html_tree_state.proofs.construction.Construction.element_above.Goals as goal
 

@@ -1,9 +1,9 @@
 use Rattle.std.proofs.Common.{List, ap₂, length, ◌∙◌}
-use Rattle.tree_building.specs.Entries.{entries_of}
-use Rattle.tree_building.specs.FormatEntry.{FormatEntry}
-use Rattle.tree_building.specs.Building.{seen, stack_of}
-use Rattle.tree_building.specs.Formatting.{made_already}
-use Rattle.tree_building.proofs.MadeAnewLemmas.{made_from_first}
+use Rattle.tree_formatting.specs.Entries.{entries_of}
+use Rattle.tree_formatting.specs.declared.entry.FormatEntry.{FormatEntry}
+use Rattle.tree_model.specs.Building.{seen, stack_of}
+use Rattle.tree_model.specs.Formatting.{made_already}
+use Rattle.tree_model.proofs.MadeAnewLemmas.{made_from_first}
 use Rattle.html_tree_state.proofs.construction.Construction.first_to_make.Goals as goal
 
 pub returns : goal.returns

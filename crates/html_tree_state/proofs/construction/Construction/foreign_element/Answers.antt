@@ -1,6 +1,6 @@
 use Rattle.std.proofs.Common.{sym, ◌∙◌}
-use Rattle.tree_building.specs.Building.{stack_of}
-use Rattle.tree_building.proofs.CountedLemmas.{counts_are, names_in, none_closed}
+use Rattle.tree_model.specs.Building.{stack_of}
+use Rattle.tree_model.proofs.CountedLemmas.{counts_are, names_in, none_closed}
 use Rattle.html_tree_state.proofs.construction.Construction.foreign_element.Goals as goal
 
 pub returns-then-has_no_foreign : goal.returns-then-has_no_foreign

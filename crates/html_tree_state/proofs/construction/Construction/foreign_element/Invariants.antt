@@ -1,7 +1,7 @@
 use Rattle.std.proofs.Common.{◌≡◌, length}
-use Rattle.tree_building.specs.Building.{seen, stack_of}
-use Rattle.tree_building.specs.Foreign.{named_foreign}
-use Rattle.tree_building.proofs.Stacks.{AreElements}
+use Rattle.tree_model.specs.Building.{seen, stack_of}
+use Rattle.tree_model.specs.Foreign.{named_foreign}
+use Rattle.tree_model.proofs.Stacks.{AreElements}
 use Rattle.html_tree_state.proofs.construction.Construction.foreign_element.Given as goal
 
 abbrev pub invariant-loop-element : goal.invariant-loop-element

@@ -1,7 +1,7 @@
 use Rattle.std.proofs.Common.{◌≡◌, length}
-use Rattle.tree_building.specs.Building.{seen, stack_of}
-use Rattle.tree_building.specs.Insertions.{foster_place}
-use Rattle.tree_building.proofs.Stacks.{AreOpen}
+use Rattle.tree_model.specs.Building.{seen, stack_of}
+use Rattle.tree_model.specs.Insertions.{foster_place}
+use Rattle.tree_model.proofs.Stacks.{AreOpen}
 use Rattle.html_tree_state.proofs.construction.Construction.foster_point.Given as goal
 
 abbrev pub invariant-loop-element : goal.invariant-loop-element

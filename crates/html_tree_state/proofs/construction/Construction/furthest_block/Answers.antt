@@ -1,10 +1,10 @@
 use Rattle.std.proofs.Common.{List, ap, inr, option_map, subst, sym, ◌∙◌}
-use Rattle.html_forest.specs.Orders.{IsIn}
-use Rattle.name_sets.specs.ElementSets.{special_elements}
-use Rattle.name_sets.specs.Sets.{is_element_of}
-use Rattle.tree_building.specs.Building.{stack_of}
+use Rattle.tree_forest.specs.Orders.{IsIn}
+use Rattle.tree_names.specs.ElementSets.{special_elements}
+use Rattle.tree_names.specs.Sets.{is_element_of}
+use Rattle.tree_model.specs.Building.{stack_of}
 use Rattle.html_tree_state.proofs.BlockWords.{block_plain, block_special}
-use Rattle.tree_building.proofs.Stacks.{stack_of_last}
+use Rattle.tree_model.proofs.Stacks.{stack_of_last}
 use Rattle.html_tree_state.proofs.construction.Construction.furthest_block.Goals as goal
 
 pub loop-node-preserved-then-is_special : goal.loop-node-preserved-then-is_special

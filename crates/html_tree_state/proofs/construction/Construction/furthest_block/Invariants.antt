@@ -1,8 +1,8 @@
 use Rattle.std.proofs.Common.{◌≡◌, length, option_map}
-use Rattle.tree_building.specs.Adoption.{furthest_block, last_special, nearer}
-use Rattle.tree_building.specs.Building.{seen, stack_of}
+use Rattle.tree_model.specs.Adoption.{furthest_block, last_special, nearer}
+use Rattle.tree_model.specs.Building.{seen, stack_of}
 use Rattle.html_tree_state.proofs.BlockWords.{or_nearer}
-use Rattle.tree_building.proofs.Stacks.{AreElements}
+use Rattle.tree_model.proofs.Stacks.{AreElements}
 use Rattle.html_tree_state.proofs.construction.Construction.furthest_block.Given as goal
 
 abbrev pub invariant-loop-node : goal.invariant-loop-node

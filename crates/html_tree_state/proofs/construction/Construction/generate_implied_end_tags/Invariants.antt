@@ -1,8 +1,8 @@
 use Rattle.std.proofs.Common.{◌≡◌, length}
-use Rattle.tree_building.specs.Building.{seen}
-use Rattle.tree_building.specs.Scopes.{implied}
-use Rattle.name_sets.specs.Wanted.{elements_of}
-use Rattle.tree_building.specs.Sound.{Sound}
+use Rattle.tree_model.specs.Building.{seen}
+use Rattle.tree_model.specs.Scopes.{implied}
+use Rattle.tree_names.specs.Wanted.{elements_of}
+use Rattle.tree_model.specs.Sound.{Sound}
 use Rattle.html_tree_state.proofs.construction.Construction.generate_implied_end_tags.Given as goal
 
 abbrev pub invariant-loop-current : goal.invariant-loop-current

@@ -1,8 +1,8 @@
 use Rattle.std.proofs.Common.{◌≡◌, length}
-use Rattle.tree_building.specs.Building.{seen, stack_of}
-use Rattle.tree_building.specs.Scopes.{has_item}
-use Rattle.name_sets.specs.Wanted.{elements_of}
-use Rattle.tree_building.proofs.Stacks.{AreElements}
+use Rattle.tree_model.specs.Building.{seen, stack_of}
+use Rattle.tree_model.specs.Scopes.{has_item}
+use Rattle.tree_names.specs.Wanted.{elements_of}
+use Rattle.tree_model.proofs.Stacks.{AreElements}
 use Rattle.html_tree_state.proofs.construction.Construction.has_item.Given as goal
 
 abbrev pub invariant-loop-element : goal.invariant-loop-element

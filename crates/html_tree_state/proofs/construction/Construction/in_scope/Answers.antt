@@ -1,8 +1,8 @@
 use Rattle.std.proofs.Common.{sym, ◌∙◌}
-use Rattle.tree_building.specs.Building.{stack_of}
-use Rattle.tree_building.proofs.CountedLemmas.{counts_are, names_in, none_in_scope}
+use Rattle.tree_model.specs.Building.{stack_of}
+use Rattle.tree_model.proofs.CountedLemmas.{counts_are, names_in, none_in_scope}
 use Rattle.html_tree_state.proofs.construction.Construction.in_scope.Goals as goal
-use Rattle.name_sets.specs.Wanted.{barriers_of, elements_of}
+use Rattle.tree_names.specs.Wanted.{barriers_of, elements_of}
 
 pub returns-then-has_none : goal.returns-then-has_none
 returns-then-has_none g c =

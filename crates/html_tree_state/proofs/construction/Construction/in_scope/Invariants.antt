@@ -1,9 +1,9 @@
 use Rattle.std.proofs.Common.{◌≡◌, length}
-use Rattle.tree_building.specs.Building.{seen, stack_of}
-use Rattle.tree_building.specs.OpenElements.{has_any, up_to}
-use Rattle.tree_building.specs.Scopes.{is_in_scope}
-use Rattle.name_sets.specs.Wanted.{barriers_of, elements_of}
-use Rattle.tree_building.proofs.Stacks.{AreElements}
+use Rattle.tree_model.specs.Building.{seen, stack_of}
+use Rattle.tree_model.specs.OpenElements.{has_any, up_to}
+use Rattle.tree_model.specs.Scopes.{is_in_scope}
+use Rattle.tree_names.specs.Wanted.{barriers_of, elements_of}
+use Rattle.tree_model.proofs.Stacks.{AreElements}
 use Rattle.html_tree_state.proofs.construction.Construction.in_scope.Given as goal
 
 abbrev pub invariant-loop-element : goal.invariant-loop-element

@@ -1,12 +1,12 @@
 use Rattle.std.proofs.Common.{rules, inl, refl, sym, ap, ap₂, subst, ◌∙◌, ◌∷◌}
-use Rattle.tree_building.specs.Entries.{entries_of}
-use Rattle.html_forest.specs.Forest.{IsElement, nodes}
-use Rattle.tree_building.specs.Building.{Building, seen}
-use Rattle.tree_building.specs.Insertions.{inserted_at, inserted_by}
-use Rattle.tree_building.specs.Points.{place_of}
-use Rattle.tree_building.specs.Sound.{Sound}
-use Rattle.tree_building.proofs.InsertedLemmas.{inserted_by_sound, inserted_sound}
-use Rattle.tree_building.proofs.SeenLemmas.{seen_is}
+use Rattle.tree_formatting.specs.Entries.{entries_of}
+use Rattle.tree_forest.specs.Forest.{IsElement, nodes}
+use Rattle.tree_model.specs.Building.{Building, seen}
+use Rattle.tree_model.specs.Insertions.{inserted_at, inserted_by}
+use Rattle.tree_model.specs.Points.{place_of}
+use Rattle.tree_model.specs.Sound.{Sound}
+use Rattle.tree_model.proofs.InsertedLemmas.{inserted_by_sound, inserted_sound}
+use Rattle.tree_model.proofs.SeenLemmas.{seen_is}
 use Rattle.html_tree_state.proofs.construction.Construction.insert_element_at.Goals as goal
 
 pub push-requires-clause-element : goal.push-requires-clause-element

@@ -1,10 +1,10 @@
 use Rattle.std.proofs.Common.{sym, subst}
-use Rattle.html_forest.specs.Forest.{nodes}
-use Rattle.tree_building.specs.Formatting.{inserted_for}
-use Rattle.tree_building.specs.Building.{seen}
-use Rattle.tree_building.specs.Sound.{Sound}
-use Rattle.tree_building.proofs.ListedLemmas.{inserted_formatting_sound}
-use Rattle.tree_building.proofs.SeenLemmas.{seen_pushed}
+use Rattle.tree_forest.specs.Forest.{nodes}
+use Rattle.tree_model.specs.Formatting.{inserted_for}
+use Rattle.tree_model.specs.Building.{seen}
+use Rattle.tree_model.specs.Sound.{Sound}
+use Rattle.tree_model.proofs.ListedLemmas.{inserted_formatting_sound}
+use Rattle.tree_model.proofs.SeenLemmas.{seen_pushed}
 use Rattle.html_tree_state.proofs.construction.Construction.insert_formatting_element.Goals as goal
 
 pub returns-clause-seen : goal.returns-clause-seen

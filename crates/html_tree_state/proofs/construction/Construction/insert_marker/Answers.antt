@@ -1,7 +1,7 @@
 use Rattle.std.proofs.Common.{arith, sym, subst}
 use Rattle.std.proofs.lemmas.Grind.{common_steps}
-use Rattle.tree_building.specs.Sound.{Sound}
-use Rattle.tree_building.proofs.ListedLemmas.{marked_sound}
+use Rattle.tree_model.specs.Sound.{Sound}
+use Rattle.tree_model.proofs.ListedLemmas.{marked_sound}
 use Rattle.html_tree_state.proofs.construction.Construction.insert_marker.Goals as goal
 
 pub returns-clause-seen : goal.returns-clause-seen

@@ -1,6 +1,6 @@
 use Rattle.std.proofs.Common.{rules, sym, subst}
-use Rattle.html_forest.specs.Conditions.{IsPlace}
-use Rattle.tree_building.proofs.PlaceLemmas.{here_there}
+use Rattle.tree_forest.specs.Conditions.{IsPlace}
+use Rattle.tree_model.proofs.PlaceLemmas.{here_there}
 use Rattle.html_tree_state.proofs.construction.Construction.insertion_point.Goals as goal
 
 pub returns-in-Some-clause-place : goal.returns-in-Some-clause-place

@@ -1,9 +1,9 @@
 use Rattle.std.proofs.Common.{◌≡◌, length}
-use Rattle.html_forest.specs.Forest.{is_in}
-use Rattle.name_sets.specs.ElementSets.{scope_barriers}
-use Rattle.tree_building.specs.Building.{seen, stack_of}
-use Rattle.tree_building.specs.OpenElements.{up_to}
-use Rattle.tree_building.proofs.Stacks.{AreElements}
+use Rattle.tree_forest.specs.Forest.{is_in}
+use Rattle.tree_names.specs.ElementSets.{scope_barriers}
+use Rattle.tree_model.specs.Building.{seen, stack_of}
+use Rattle.tree_model.specs.OpenElements.{up_to}
+use Rattle.tree_model.proofs.Stacks.{AreElements}
 use Rattle.html_tree_state.proofs.construction.Construction.is_element_in_scope.Given as goal
 
 abbrev pub invariant-loop-node : goal.invariant-loop-node

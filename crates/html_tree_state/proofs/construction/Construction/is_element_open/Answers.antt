@@ -1,8 +1,8 @@
 use Rattle.std.proofs.Common.{◌∷◌, ◌++◌, sym, ap, ◌∙◌}
-use Rattle.tree_building.specs.Building.{stack_of}
-use Rattle.tree_building.proofs.CountedLemmas.{unopened}
+use Rattle.tree_model.specs.Building.{stack_of}
+use Rattle.tree_model.proofs.CountedLemmas.{unopened}
 use Rattle.html_tree_state.proofs.construction.Construction.is_element_open.Goals as goal
-use Rattle.name_sets.specs.Counts.{counts_of}
+use Rattle.tree_names.specs.Counts.{counts_of}
 
 pub returns-then-has_none_named : goal.returns-then-has_none_named
 returns-then-has_none_named g c =

@@ -1,6 +1,6 @@
 use Rattle.std.proofs.Common.{sym, ap, ◌∙◌, option_map}
-use Rattle.tree_building.specs.Entries.{entries_of, last_named}
-use Rattle.tree_building.proofs.TurnLemmas.{named_with_tag}
+use Rattle.tree_formatting.specs.Entries.{entries_of, last_named}
+use Rattle.tree_model.proofs.TurnLemmas.{named_with_tag}
 use Rattle.html_tree_state.proofs.construction.Construction.last_listed.Goals as goal
 
 pub returns-clause-named : goal.returns-clause-named

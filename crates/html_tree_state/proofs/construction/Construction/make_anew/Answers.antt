@@ -1,7 +1,7 @@
 use Rattle.std.proofs.Common.{List, ap, arith, length, slice_index_or, ◌∙◌}
-use Rattle.tree_building.specs.FormatEntry.{FormatEntry}
-use Rattle.tree_building.specs.Building.{Building}
-use Rattle.tree_building.proofs.MadeAnewLemmas.{IsMadeAnew, as_many, made_element, made_marker}
+use Rattle.tree_formatting.specs.declared.entry.FormatEntry.{FormatEntry}
+use Rattle.tree_model.specs.Building.{Building}
+use Rattle.tree_model.proofs.MadeAnewLemmas.{IsMadeAnew, as_many, made_element, made_marker}
 use Rattle.html_tree_state.proofs.construction.Construction.make_anew.Given.{Over}
 use Rattle.html_tree_state.proofs.construction.Construction.make_anew.Goals as goal
 

@@ -1,9 +1,9 @@
 use Rattle.std.proofs.Common.{option_map, sym, subst}
-use Rattle.tree_building.specs.Adoption.{ancestor_of}
-use Rattle.tree_building.specs.Points.{place_of}
-use Rattle.tree_building.specs.Sound.{Sound}
-use Rattle.tree_building.proofs.PlacedLemmas.{ancestor_open, ancestor_sound, can_put_last, out_of_place_sound}
-use Rattle.tree_building.proofs.PlacedLemmas.{seen_out, seen_placed}
+use Rattle.tree_model.specs.Adoption.{ancestor_of}
+use Rattle.tree_model.specs.Points.{place_of}
+use Rattle.tree_model.specs.Sound.{Sound}
+use Rattle.tree_model.proofs.PlacedLemmas.{ancestor_open, ancestor_sound, can_put_last, out_of_place_sound, seen_out}
+use Rattle.tree_model.proofs.PlacedLemmas.{seen_placed}
 use Rattle.html_tree_state.proofs.construction.Construction.place_last.Goals as goal
 
 pub point_for-point-requires-clause-sound : goal.point_for-point-requires-clause-sound

@@ -1,8 +1,8 @@
 use Rattle.std.proofs.Common.{◌≡◌, length}
-use Rattle.tree_building.specs.Building.{seen}
-use Rattle.tree_building.specs.Scopes.{popped_to}
-use Rattle.name_sets.specs.Wanted.{elements_of}
-use Rattle.tree_building.specs.Sound.{Sound}
+use Rattle.tree_model.specs.Building.{seen}
+use Rattle.tree_model.specs.Scopes.{popped_to}
+use Rattle.tree_names.specs.Wanted.{elements_of}
+use Rattle.tree_model.specs.Sound.{Sound}
 use Rattle.html_tree_state.proofs.construction.Construction.pop_to.Given as goal
 
 abbrev pub invariant-loop-current : goal.invariant-loop-current

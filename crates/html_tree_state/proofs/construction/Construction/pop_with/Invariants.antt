@@ -1,7 +1,7 @@
 use Rattle.std.proofs.Common.{◌≡◌, length}
-use Rattle.tree_building.specs.Adoption.{popped_with}
-use Rattle.tree_building.specs.Building.{seen}
-use Rattle.tree_building.specs.Sound.{Sound}
+use Rattle.tree_model.specs.Adoption.{popped_with}
+use Rattle.tree_model.specs.Building.{seen}
+use Rattle.tree_model.specs.Sound.{Sound}
 use Rattle.html_tree_state.proofs.construction.Construction.pop_with.Given as goal
 
 abbrev pub invariant-loop-current : goal.invariant-loop-current

@@ -1,13 +1,13 @@
 use Rattle.std.proofs.Common.{◌≡◌, codes, sym, ap, subst, ◌∙◌}
-use Rattle.html_forest.specs.Orders.{IsForest}
-use Rattle.tree_building.specs.Building.{Building, seen}
-use Rattle.tree_building.specs.Points.{place_of}
-use Rattle.tree_building.specs.Insertions.{with_element}
-use Rattle.tree_building.proofs.CountsKept.{element_kept}
-use Rattle.tree_building.proofs.SeenLemmas.{seen_changed}
-use Rattle.name_sets.specs.Sets.{is_html}
-use Rattle.tree_building.specs.Attributes.{is_html_annotation}
-use Rattle.tree_building.proofs.InsertedLemmas.{can_put_new, put_new, with_element_sound}
+use Rattle.tree_forest.specs.Orders.{IsForest}
+use Rattle.tree_model.specs.Building.{Building, seen}
+use Rattle.tree_model.specs.Points.{place_of}
+use Rattle.tree_model.specs.Insertions.{with_element}
+use Rattle.tree_model.proofs.CountsKept.{element_kept}
+use Rattle.tree_model.proofs.SeenLemmas.{seen_changed}
+use Rattle.tree_names.specs.Sets.{is_html}
+use Rattle.tree_predicates.specs.Attributes.{is_html_annotation}
+use Rattle.tree_model.proofs.InsertedLemmas.{can_put_new, put_new, with_element_sound}
 use Rattle.html_tree_state.proofs.construction.Construction.put_element.Goals as goal
 
 pub insert_at-requires : goal.insert_at-requires

@@ -1,5 +1,5 @@
 use Rattle.std.proofs.Common.{◌≤◌, ap, arith, length, sym, ◌∙◌}
-use Rattle.tree_building.proofs.MadeAnewLemmas.{all_made}
+use Rattle.tree_model.proofs.MadeAnewLemmas.{all_made}
 use Rattle.html_tree_state.proofs.construction.Construction.reconstruct_active_formatting_elements.Goals as goal
 
 pub returns-clause-seen : goal.returns-clause-seen

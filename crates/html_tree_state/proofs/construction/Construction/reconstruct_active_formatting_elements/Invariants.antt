@@ -1,7 +1,7 @@
 use Rattle.std.proofs.Common.{◌≡◌, ◌-◌, length}
-use Rattle.tree_building.specs.Building.{seen}
-use Rattle.tree_building.specs.Formatting.{made_from, reconstructed}
-use Rattle.tree_building.specs.Sound.{Sound}
+use Rattle.tree_model.specs.Building.{seen}
+use Rattle.tree_model.specs.Formatting.{made_from, reconstructed}
+use Rattle.tree_model.specs.Sound.{Sound}
 use Rattle.html_tree_state.proofs.construction.Construction.reconstruct_active_formatting_elements.Given as goal
 
 abbrev pub invariant-forward : goal.invariant-forward

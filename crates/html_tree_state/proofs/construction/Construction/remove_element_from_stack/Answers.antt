@@ -1,6 +1,6 @@
 use Rattle.std.proofs.Common.{sym, ap, ◌∙◌}
-use Rattle.tree_building.specs.Building.{Building, seen}
-use Rattle.tree_building.proofs.OpenLemmas.{left_out_none}
+use Rattle.tree_model.specs.Building.{Building, seen}
+use Rattle.tree_model.proofs.OpenLemmas.{left_out_none}
 use Rattle.html_tree_state.proofs.construction.Construction.remove_element_from_stack.Goals as goal
 
 pub returns-else-is_element_open-clause-seen : goal.returns-else-is_element_open-clause-seen

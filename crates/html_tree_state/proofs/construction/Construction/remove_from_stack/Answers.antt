@@ -1,5 +1,5 @@
 use Rattle.std.proofs.Common.{rules, subst, sym}
-use Rattle.tree_building.specs.Sound.{Sound}
+use Rattle.tree_model.specs.Sound.{Sound}
 use Rattle.html_tree_state.proofs.construction.Construction.remove_from_stack.Goals as goal
 
 pub returns-clause-seen : goal.returns-clause-seen

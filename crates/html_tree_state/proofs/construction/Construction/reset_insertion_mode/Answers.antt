@@ -1,11 +1,11 @@
 use Rattle.std.proofs.Common.{ℕ, ◌<◌, false, inr, List, length, map, sym, ap, subst, ◌∙◌, option_map, arith}
 use Rattle.std.proofs.lemmas.Bool.Decides.{nat_tests}
-use Rattle.html_forest.specs.Forest.{name_of}
-use Rattle.html_forest.specs.Orders.{IsIn}
+use Rattle.tree_forest.specs.Forest.{name_of}
+use Rattle.tree_forest.specs.Orders.{IsIn}
 use Rattle.html_lexemes.specs.declared.names.QualName.{QualName}
-use Rattle.tree_building.specs.Building.{stack_of}
-use Rattle.tree_building.proofs.Stacks.{stack_of_last}
-use Rattle.tree_building.specs.Modes.{own_mode, reset_mode}
+use Rattle.tree_model.specs.Building.{stack_of}
+use Rattle.tree_model.proofs.Stacks.{stack_of_last}
+use Rattle.tree_predicates.specs.Modes.{own_mode, reset_mode}
 use Rattle.html_tree_state.proofs.ResetLemmas.{reset_further, reset_own}
 use Rattle.html_tree_state.proofs.construction.Construction.reset_insertion_mode.Goals as goal
 

@@ -1,9 +1,9 @@
 use Rattle.std.proofs.Common.{◌≡◌, length, map, option_map}
-use Rattle.html_forest.specs.Forest.{name_of}
-use Rattle.tree_building.specs.Building.{seen, stack_of}
-use Rattle.tree_building.specs.Names.{names_of}
-use Rattle.tree_building.proofs.Stacks.{AreElements}
-use Rattle.tree_building.specs.Modes.{reset_mode}
+use Rattle.tree_forest.specs.Forest.{name_of}
+use Rattle.tree_model.specs.Building.{seen, stack_of}
+use Rattle.tree_model.specs.Names.{names_of}
+use Rattle.tree_model.proofs.Stacks.{AreElements}
+use Rattle.tree_predicates.specs.Modes.{reset_mode}
 use Rattle.html_tree_state.proofs.construction.Construction.reset_insertion_mode.Given as goal
 
 abbrev pub invariant-loop-element : goal.invariant-loop-element

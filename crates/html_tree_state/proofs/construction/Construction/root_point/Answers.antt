@@ -1,6 +1,6 @@
 use Rattle.std.proofs.Common.{List, subst}
-use Rattle.html_forest.specs.Orders.{IsIn}
-use Rattle.tree_building.specs.Building.{stack_of}
+use Rattle.tree_forest.specs.Orders.{IsIn}
+use Rattle.tree_model.specs.Building.{stack_of}
 use Rattle.html_tree_state.proofs.construction.Construction.root_point.Goals as goal
 
 pub returns-in-Some-clause-there : goal.returns-in-Some-clause-there

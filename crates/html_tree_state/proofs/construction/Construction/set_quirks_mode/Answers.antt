@@ -1,6 +1,6 @@
 use Rattle.std.proofs.Common.{rules, sym, subst}
-use Rattle.tree_building.specs.Sound.{Sound}
-use Rattle.tree_building.proofs.SoundLemmas.{quirks_sound}
+use Rattle.tree_model.specs.Sound.{Sound}
+use Rattle.tree_model.proofs.SoundLemmas.{quirks_sound}
 use Rattle.html_tree_state.proofs.construction.Construction.set_quirks_mode.Goals as goal
 
 pub returns-clause-seen : goal.returns-clause-seen

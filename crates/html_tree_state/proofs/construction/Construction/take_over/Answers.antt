@@ -1,13 +1,13 @@
 use Rattle.std.proofs.Common.{◌∙◌, List, ap, ap₂, arith, option_map, subst, sym}
 use Rattle.std.proofs.lemmas.Grind.{common_steps}
-use Rattle.html_forest.specs.Forest.{nodes}
-use Rattle.html_forest.specs.Orders.{IsIn}
-use Rattle.tree_building.specs.Building.{Parts, are_counted, seen, stack_of}
-use Rattle.tree_building.specs.Formatting.{made_for}
-use Rattle.tree_building.specs.Sound.{Sound}
-use Rattle.tree_building.proofs.GrownLemmas.{made_apart}
-use Rattle.tree_building.proofs.TakeOverLemmas.{given_is_forest, may_give, may_take, over_elements, over_kept}
-use Rattle.tree_building.proofs.TakeOverLemmas.{over_new, taken_is, taken_is_forest}
+use Rattle.tree_forest.specs.Forest.{nodes}
+use Rattle.tree_forest.specs.Orders.{IsIn}
+use Rattle.tree_model.specs.Building.{Parts, are_counted, seen, stack_of}
+use Rattle.tree_model.specs.Formatting.{made_for}
+use Rattle.tree_model.specs.Sound.{Sound}
+use Rattle.tree_model.proofs.GrownLemmas.{made_apart}
+use Rattle.tree_model.proofs.TakeOverLemmas.{given_is_forest, may_give, may_take, over_elements, over_kept, over_new}
+use Rattle.tree_model.proofs.TakeOverLemmas.{taken_is, taken_is_forest}
 use Rattle.html_tree_state.proofs.construction.Construction.take_over.Goals as goal
 
 pub reparent_children-requires : goal.reparent_children-requires

@@ -1,5 +1,5 @@
-use Rattle.tree_building.specs.Building.{seen}
-use Rattle.tree_building.proofs.ListedAfter.{tag_listed}
+use Rattle.tree_model.specs.Building.{seen}
+use Rattle.tree_model.proofs.ListedAfter.{tag_listed}
 use Rattle.html_tree_state.proofs.construction.Construction.turn_with.Goals as goal
 
 pub is_element_open-requires-clause-element : goal.is_element_open-requires-clause-element

@@ -1,7 +1,7 @@
 use Rattle.std.proofs.Common.{◌≡◌, ◌-◌, List, true, false, refl, subst, sym, ◌∙◌, arith}
-use Rattle.html_forest.specs.Forest.{is_in}
-use Rattle.tree_building.specs.Building.{seen, stack_of}
-use Rattle.tree_building.specs.OpenAt.{IsOpenAt}
+use Rattle.tree_forest.specs.Forest.{is_in}
+use Rattle.tree_model.specs.Building.{seen, stack_of}
+use Rattle.tree_model.specs.OpenAt.{IsOpenAt}
 use Rattle.html_tree_state.specs.Turns.{walk_of}
 use Rattle.html_tree_state.proofs.WalkPlaces.{above_length, block_open, next_below, next_open, same_length, some_left}
 use Rattle.html_tree_state.proofs.WalkPlaces.{step_taken, walk_ends, walk_next, walking_begins, within}

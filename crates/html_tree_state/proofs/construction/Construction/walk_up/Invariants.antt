@@ -1,4 +1,4 @@
-use Rattle.tree_building.specs.Building.{seen}
+use Rattle.tree_model.specs.Building.{seen}
 use Rattle.html_tree_state.specs.Turns.{walk_of}
 use Rattle.html_tree_state.proofs.WalkPlaces.{IsWalking}
 use Rattle.html_tree_state.proofs.construction.Construction.walk_up.Given as goal

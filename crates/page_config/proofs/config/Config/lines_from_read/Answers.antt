@@ -6,7 +6,7 @@ use Rattle.page_config.proofs.ReadingLemmas.{lines_read, narrow_error, narrow_re
 use Rattle.page_config.proofs.config.Config.lines_from_read.Goals as goal
 use Rattle.page_config.specs.Settings.{page_setting}
 use Rattle.render_conversion.specs.declared.error.RenderError.TheVariants.{TooNarrow}
-use Rattle.tagged_lines.specs.Tagged.{line_items}
+use Rattle.text_lines.specs.Tagged.{line_items}
 
 pub returns-clause-lines : goal.returns-clause-lines
 returns-clause-lines g c = lines_read g.D.Annotation.EqualCopy.seen g.D.TextDecorator.view

@@ -3,7 +3,7 @@ use Rattle.std.proofs.lemmas.Result.{err_from_is_err_and}
 use Rattle.block_renderer.specs.Seen.{tags_seen}
 use Rattle.html_render_tree.specs.PageLines.{lines_text}
 use Rattle.html_render_tree.specs.Settings.{setting_of}
-use Rattle.tagged_lines.specs.Tagged.{line_items}
+use Rattle.text_lines.specs.Tagged.{line_items}
 use Rattle.page_config.proofs.ReadingLemmas.{narrow_error, narrow_read, text_read}
 use Rattle.page_config.proofs.config.Config.text_lines_from_read.Goals as goal
 use Rattle.page_config.specs.Settings.{page_setting}

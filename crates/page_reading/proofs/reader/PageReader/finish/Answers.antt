@@ -3,7 +3,7 @@ use Rattle.html_tree_builder.specs.Grown.{IsGrown}
 use Rattle.html_tree_builder.specs.Parsers.{Completes}
 use Rattle.page_reading.proofs.reader.PageReader.finish.Goals as goal
 use Rattle.page_reading.specs.Readers.{Comes, dom_view}
-use Rattle.utf8_decoding.specs.ReplacedText.{replaced_text}
+use Rattle.page_decoding.specs.ReplacedText.{replaced_text}
 
 pub returns-clause-tree : goal.returns-clause-tree
 unfolding Comes

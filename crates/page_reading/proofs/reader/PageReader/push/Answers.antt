@@ -3,7 +3,7 @@ use Rattle.html_tree_builder.specs.Parsers.{Completes}
 use Rattle.page_reading.proofs.ComingLemmas.{grown_as}
 use Rattle.page_reading.proofs.reader.PageReader.push.Goals as goal
 use Rattle.page_reading.specs.Readers.{Comes, dom_view}
-use Rattle.utf8_decoding.specs.ReplacedText.{replaced_text}
+use Rattle.page_decoding.specs.ReplacedText.{replaced_text}
 
 pub returns-clause-reads : goal.returns-clause-reads
 unfolding Comes

@@ -1,6 +1,6 @@
 use Rattle.std.proofs.Common.{Option, Some, None, chars, sym, ap, ◌∙◌}
 use Rattle.std.proofs.lemmas.Result.{on_ok_weaker}
-use Rattle.renderer_laws.specs.Seen.{sub_of, marking}
+use Rattle.block_renderer.specs.Seen.{sub_of, marking}
 use Rattle.text_block_renderer.specs.Parts.{Parts}
 use Rattle.text_block_renderer.specs.SeenParts.{parts_of}
 use Rattle.text_block_renderer.proofs.PartLemmas.{number_added}

@@ -1,7 +1,7 @@
 use Rattle.std.proofs.Common.{ap, ◌∙◌}
 use Rattle.std.specs.Option.{option_map, option_and_then}
 use Rattle.std.proofs.lemmas.Result.{on_ok_weaker}
-use Rattle.renderer_laws.specs.Seen.{marking}
+use Rattle.block_renderer.specs.Seen.{marking}
 use Rattle.text_block_renderer.specs.Parts.{with_current, add_part_number}
 use Rattle.text_block_renderer.specs.SeenParts.{parts_of}
 use Rattle.text_block_renderer.proofs.text_renderer.TextRenderer.finish_link.Goals as goal

@@ -1,5 +1,5 @@
 use Rattle.std.proofs.Common.{sym, ◌∙◌}
-use Rattle.renderer_laws.specs.Seen.{sub_of}
+use Rattle.block_renderer.specs.Seen.{sub_of}
 use Rattle.text_block_renderer.specs.SeenParts.{parts_of}
 use Rattle.text_block_renderer.proofs.PartLemmas.{parts_split}
 use Rattle.text_block_renderer.proofs.text_renderer.TextRenderer.pop.Goals as goal

@@ -9,6 +9,6 @@ pub returns : goal.returns
 returns g c =
     let seen = g.T.EqualCopy.seen in
     joined_to (option_map with_up) (border_of seen c.args.self.now) (border_of seen c.stretch_to.new.self)
-    c.stretch_to.new.self.segments.items c.args.column c.in_ok-behind.field-0 c.index_mut.result.now
-    c.join_above.new.self c.in_ok-behind.ensures c.in_ok-stretch_to.ensures refl c.index_mut.ensures.value
+    c.stretch_to.new.self.segments.items c.args.column c.in_ok-trailing.field-0 c.index_mut.result.now
+    c.join_above.new.self c.in_ok-trailing.ensures c.in_ok-stretch_to.ensures refl c.index_mut.ensures.value
     c.join_above.ensures

@@ -1,5 +1,5 @@
 use Rattle.text_borders.specs.Borders.{border_of}
-use Rattle.tagged_lines.specs.Tagged.{line_items}
+use Rattle.text_lines.specs.Tagged.{line_items}
 use Rattle.text_cells.specs.OpenCells.{open_cell_of}
 use Rattle.text_cells.proofs.OpeningLemmas.{closed_with}
 use Rattle.text_cells.proofs.opening.OpenCell.close_with.Goals as goal

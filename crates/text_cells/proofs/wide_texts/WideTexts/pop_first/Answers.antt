@@ -1,6 +1,6 @@
 use Rattle.std.proofs.Common.{◌≡◌}
 use Rattle.std.proofs.lemmas.List.Elements.{All-rest}
-use Rattle.tagged_lines.specs.Tagged.{line_items}
+use Rattle.text_lines.specs.Tagged.{line_items}
 use Rattle.text_pieces.specs.Items.{has_text}
 use Rattle.text_cells.proofs.TextLemmas.{wide_popped, count_popped}
 use Rattle.text_cells.proofs.wide_texts.WideTexts.pop_first.Goals as goal

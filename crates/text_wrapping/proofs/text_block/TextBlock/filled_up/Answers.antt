@@ -1,5 +1,5 @@
 use Rattle.std.proofs.Common.{map}
-use Rattle.tagged_lines.specs.Tagged.{line_items}
+use Rattle.text_lines.specs.Tagged.{line_items}
 use Rattle.text_wrapping.proofs.BlockLemmas.{bare_lines}
 use Rattle.text_wrapping.proofs.text_block.TextBlock.filled_up.Goals as goal
 

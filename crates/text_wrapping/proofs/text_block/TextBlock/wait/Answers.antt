@@ -1,8 +1,8 @@
 use Rattle.std.proofs.Common.{◌≡◌, refl, sym, ap, ◌∙◌, length, arith}
 use Rattle.std.specs.Vec.Iter.{into_iter_items}
 use Rattle.text_pieces.specs.Sources.{names, fragments, sources_of}
-use Rattle.preserved_text.proofs.TrimLemmas.{nil_length}
-use Rattle.text_wrapping.specs.Blocks.{text_of, behind_sources}
+use Rattle.text_preserved.proofs.TrimLemmas.{nil_length}
+use Rattle.text_wrapping.specs.Blocks.{text_of, after_sources}
 use Rattle.text_wrapping.proofs.BlockLemmas.{wait_more, wait_all, nothing_held}
 use Rattle.text_wrapping.proofs.text_block.TextBlock.wait.Goals as goal
 
@@ -22,7 +22,7 @@ loop-name-preserved g c =
           (names (into_iter_items c.next.new.self)) refl
           (ap (λ pieces. record (text_of seen c.loop-name.self) { source = sources_of seen pieces })
           c.in_ok-push.ensures.items)
-          (ap (λ left. behind_sources (fragments (names left)) (text_of seen c.loop-name.self))
+          (ap (λ left. after_sources (fragments (names left)) (text_of seen c.loop-name.self))
           (sym c.in-Some.ensures.steps.0)
           ∙ c.loop-name.invariant.waits);
       joined = λ h. c.loop-name.invariant.joined h;

@@ -1,2 +1,0 @@
-pub mod ArticleValues
-pub use Rattle.written_articles.specs.Contents

@@ -1,0 +1,9 @@
+mod Alikes
+mod BlocksCalled
+mod Called
+mod Exchanged
+mod Narrow
+mod NeverRefused
+mod NotesCalled
+mod Shown
+mod ShownOnce

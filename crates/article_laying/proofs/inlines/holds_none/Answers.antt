@@ -1,6 +1,0 @@
-use Rattle.std.proofs.Common.{◌∙◌}
-use Rattle.article_laying.proofs.InlineLemmas.{empty_holds_none}
-use Rattle.article_laying.proofs.inlines.holds_none.Goals as goal
-
-pub returns : goal.returns
-returns c = c.is_empty.ensures ∙ empty_holds_none c.args.contents.now

@@ -1,6 +1,0 @@
-use Rattle.std.proofs.Common.{rules}
-use Rattle.std.proofs.lemmas.Str.{chars-nil}
-use Rattle.article_laying.proofs.inlines.shown_mark.Goals as goal
-
-pub returns-else-options : goal.returns-else-options
-returns-else-options c = search (rules, chars-nil)

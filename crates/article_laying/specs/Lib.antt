@@ -1,4 +1,0 @@
-pub mod Lines
-pub mod Seen
-pub mod Settings
-pub mod Walks

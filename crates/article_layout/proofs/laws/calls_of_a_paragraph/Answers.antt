@@ -1,6 +1,0 @@
-use Rattle.article_layout.proofs.Called.{paragraph_called}
-use Rattle.article_layout.proofs.laws.calls_of_a_paragraph.Goals as goal
-
-pub returns : goal.returns
-returns c = λ o width number links is before hanging.
-    paragraph_called c.normal_lines_keep_markers.ensures o width number hanging links is before

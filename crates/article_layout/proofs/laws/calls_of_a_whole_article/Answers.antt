@@ -1,5 +1,0 @@
-use Rattle.article_layout.proofs.NotesCalled.{whole_called}
-use Rattle.article_layout.proofs.laws.calls_of_a_whole_article.Goals as goal
-
-pub returns : goal.returns
-returns c = λ o width a. whole_called c.normal_lines_keep_markers.ensures o width a

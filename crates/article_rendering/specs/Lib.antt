@@ -1,2 +1,0 @@
-pub mod ArticlesLaid
-pub use Rattle.article_walk.specs.Pages

@@ -1,6 +1,0 @@
-use Rattle.article_walk.proofs.ArticlesWalked.{page_walked}
-use Rattle.article_walk.proofs.laws.values_of_a_page_are_its_calls.Goals as goal
-
-pub returns : goal.returns
-returns c = λ given decorates min_wrap held width blocks filled.
-    page_walked given decorates min_wrap held width blocks filled

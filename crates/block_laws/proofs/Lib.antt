@@ -1,0 +1,5 @@
+pub mod BareLemmas
+pub mod BareNoteLemmas
+pub mod KeptLemmas
+pub mod PrefixLemmas
+pub mod RoomLemmas

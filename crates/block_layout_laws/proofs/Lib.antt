@@ -1,0 +1,6 @@
+pub mod HangingLemmas
+pub mod LaidRetagged
+pub mod OptionLemmas
+pub mod OverflowLemmas
+pub mod RowWidths
+pub mod WidthLemmas

@@ -1,0 +1,4 @@
+pub mod ImageLemmas
+pub mod StackLemmas
+pub mod StrikingLemmas
+pub mod TextLemmas

@@ -1,3 +1,0 @@
-mod AcrossLemmas
-mod FitLemmas
-mod ShareLemmas

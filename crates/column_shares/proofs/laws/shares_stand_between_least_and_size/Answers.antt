@@ -1,5 +1,0 @@
-use Rattle.column_shares.proofs.ShareLemmas.{share_between}
-use Rattle.column_shares.proofs.laws.shares_stand_between_least_and_size.Goals as goal
-
-pub returns : goal.returns
-returns c = λ columns width column within. share_between columns width column within

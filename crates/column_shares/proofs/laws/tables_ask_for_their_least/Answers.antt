@@ -1,5 +1,0 @@
-use Rattle.column_shares.proofs.ShareLemmas.{table_within}
-use Rattle.column_shares.proofs.laws.tables_ask_for_their_least.Goals as goal
-
-pub returns : goal.returns
-returns c = λ columns within. table_within columns within

@@ -1,6 +1,0 @@
-use Rattle.column_shares.proofs.AcrossLemmas.{across_fit}
-use Rattle.column_shares.proofs.laws.widths_across_fit.Goals as goal
-
-pub returns : goal.returns
-returns c = λ columns width.
-    across_fit c.columns_have_widths.ensures c.widths_fit_the_width.ensures.within columns width

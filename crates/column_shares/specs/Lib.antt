@@ -1,3 +1,0 @@
-pub mod Across
-pub mod RowWords
-pub mod Shares

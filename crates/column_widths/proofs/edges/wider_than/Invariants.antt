@@ -1,7 +1,0 @@
-use Rattle.std.proofs.Common.{◌≡◌, ◌≤◌, count_by, take}
-use Rattle.column_widths.specs.Widths.{is_wider}
-use Rattle.column_widths.proofs.edges.wider_than.Given as goal
-
-abbrev pub invariant-loop-column : goal.invariant-loop-column
-invariant-loop-column l =
-    (l.count ≡ count_by (is_wider l.level l.least) (take l.column-index l.columns)) × (l.count ≤ l.column-index)

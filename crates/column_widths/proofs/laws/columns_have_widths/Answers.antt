@@ -1,5 +1,0 @@
-use Rattle.column_widths.proofs.WidthLemmas.{have_widths}
-use Rattle.column_widths.proofs.laws.columns_have_widths.Goals as goal
-
-pub returns : goal.returns
-returns c = λ columns width fit. have_widths columns width fit

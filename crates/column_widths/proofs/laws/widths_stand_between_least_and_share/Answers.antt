@@ -1,5 +1,0 @@
-use Rattle.column_widths.proofs.TotalLemmas.{bounds_law}
-use Rattle.column_widths.proofs.laws.widths_stand_between_least_and_share.Goals as goal
-
-pub returns : goal.returns
-returns c = λ columns width widths within are i lt. bounds_law columns width widths within are i lt

@@ -1,8 +1,0 @@
-use Rattle.std.proofs.Common.{arith}
-use Rattle.std.proofs.lemmas.Grind.{common_steps}
-use Rattle.column_widths.specs.Widths.{filled}
-use Rattle.column_widths.proofs.levels.filled_at.Goals as goal
-
-pub returns : goal.returns
-unfolding filled
-returns c = grind (arith, common_steps)

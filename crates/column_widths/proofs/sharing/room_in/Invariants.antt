@@ -1,6 +1,0 @@
-use Rattle.std.proofs.Common.{◌≡◌, ◌+◌, sum_by, take}
-use Rattle.column_widths.specs.Widths.{least_of, separators}
-use Rattle.column_widths.proofs.sharing.room_in.Given as goal
-
-abbrev pub invariant-loop-column : goal.invariant-loop-column
-invariant-loop-column l = l.room + sum_by least_of (take l.column-index l.columns) + separators l.columns ≡ l.width

@@ -1,3 +1,0 @@
-pub mod NodeLemmas
-pub mod TurnLemmas
-pub mod StepLemmas

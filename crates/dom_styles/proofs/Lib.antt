@@ -1,0 +1,4 @@
+mod CascadeLemmas
+mod FunctionLemmas
+mod KeyLemmas
+mod StyleLemmas

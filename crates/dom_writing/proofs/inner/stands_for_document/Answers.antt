@@ -1,0 +1,6 @@
+use Rattle.html_render_dom.specs.Numbers.{number_of}
+use Rattle.dom_writing.proofs.NodeLemmas.{document_past}
+use Rattle.dom_writing.proofs.inner.stands_for_document.Goals as goal
+
+pub returns-in-None : goal.returns-in-None
+returns-in-None c = document_past (number_of c.args.node) c.args.dom.now.forest c.in-None.ensures.stands

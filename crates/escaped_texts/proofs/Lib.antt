@@ -1,5 +1,0 @@
-mod BasicTable
-mod NamedEscapes
-mod NamedReferences
-pub mod ReadTexts
-pub mod ReadValues

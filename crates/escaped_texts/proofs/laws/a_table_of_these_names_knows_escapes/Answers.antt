@@ -1,5 +1,0 @@
-use Rattle.escaped_texts.proofs.NamedEscapes.{knows}
-use Rattle.escaped_texts.proofs.laws.a_table_of_these_names_knows_escapes.Goals as goal
-
-pub returns : goal.returns
-returns c = knows c.args.table.now c.names_are_names.ensures

@@ -1,3 +1,0 @@
-pub mod CutLemmas
-pub mod RunLemmas
-pub mod WidthLemmas

@@ -1,5 +1,0 @@
-use Rattle.footnote_lines.proofs.WidthLemmas.{footnotes_fit}
-use Rattle.footnote_lines.proofs.laws.footnotes_keep_the_width.Goals as goal
-
-pub returns : goal.returns
-returns g c = λ width items wide. footnotes_fit width items wide

@@ -1,5 +1,0 @@
-use Rattle.forest_trees.proofs.TreeLemmas.{three_steps}
-use Rattle.forest_trees.proofs.laws.a_walk_takes_three_steps_a_node.Goals as goal
-
-pub returns : goal.returns
-returns c = three_steps

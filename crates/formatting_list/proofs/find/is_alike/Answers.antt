@@ -1,8 +1,0 @@
-use Rattle.formatting_list.proofs.AlikeLemmas.{alike_from_equivalent, equivalent_from_alike, same_tests}
-use Rattle.formatting_list.specs.Alike.{are_alike}
-use Rattle.formatting_list.proofs.find.is_alike.Goals as goal
-
-pub returns : goal.returns
-returns c = same_tests c.equiv_modulo_attr_order.result (are_alike c.args.held.now c.args.tag.now)
-    (λ e. alike_from_equivalent c.args.held.now c.args.tag.now (c.equiv_modulo_attr_order.ensures.0 e))
-    (λ e. c.equiv_modulo_attr_order.ensures.1 (equivalent_from_alike c.args.held.now c.args.tag.now e))

@@ -1,9 +1,0 @@
-use Rattle.std.proofs.Common.{ap, ◌∙◌}
-use Rattle.formatting_list.specs.Entries.{entries_of, is_listed, up_to_marker, without_entry}
-use Rattle.formatting_list.proofs.list.FormattingList.stands_behind_marker.Goals as goal
-
-pub returns : goal.returns
-returns g c = c.is_behind_marker_without.ensures
-    ∙ ap (λ v. is_listed (g.S.TreeSink.view.number c.args.target)
-    (up_to_marker (without_entry (g.S.TreeSink.view.number c.args.without) (entries_of g.S.TreeSink.view.number v))))
-    (c.as_slice.ensures.value ∙ c.self.view_is)

@@ -1,6 +1,0 @@
-use Rattle.std.proofs.Common.{◌≡◌, fold, length, take, chars}
-use Rattle.formatting_list.specs.Prints.{mixed}
-use Rattle.formatting_list.proofs.prints.text_print.Given as goal
-
-abbrev pub invariant-loop-c : goal.invariant-loop-c
-invariant-loop-c l = l.taken ≡ fold mixed l.print (take (length l.yielded) (chars l.text))

@@ -1,9 +1,0 @@
-pub use Rattle.tree_actions.specs.Outcomes
-pub use Rattle.tree_actions.specs.Parsed
-pub use Rattle.tree_actions.specs.Actions
-pub use Rattle.tree_actions.specs.InBody
-pub use Rattle.tree_actions.specs.InBodyBlocks
-pub use Rattle.tree_actions.specs.InBodyEnds
-pub use Rattle.tree_actions.specs.InBodyPhrases
-pub use Rattle.tree_actions.specs.Rows
-pub use Rattle.tree_actions.specs.Settling

@@ -1,5 +1,0 @@
-use Rattle.html_forest.proofs.MovedNodes.{attributes_kept}
-use Rattle.html_forest.proofs.keeping.attributes_keep_a_forest.Goals as goal
-
-pub returns : goal.returns
-returns c = attributes_kept

@@ -1,5 +1,0 @@
-use Rattle.html_forest.proofs.MadeNodes.{put_kept}
-use Rattle.html_forest.proofs.keeping.putting_keeps_a_forest.Goals as goal
-
-pub returns : goal.returns
-returns c = put_kept

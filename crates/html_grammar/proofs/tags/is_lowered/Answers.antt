@@ -1,8 +1,0 @@
-use Rattle.std.proofs.Common.{chars, sym, ◌∙◌}
-use Rattle.html_grammar.proofs.TagNameLemmas.{lowered_text}
-use Rattle.html_grammar.proofs.tags.is_lowered.Goals as goal
-
-pub returns : goal.returns
-returns c told =
-    lowered_text (chars c.args.text.now) c.split_while.result.1.now c.split_while.ensures.rest
-    (sym c.is_empty.ensures ∙ told)

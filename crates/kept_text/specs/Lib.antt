@@ -1,3 +1,0 @@
-pub mod KeptText
-pub mod PageTexts
-pub use Rattle.tree_ranks.specs.Falls

@@ -1,4 +1,0 @@
-pub mod FindLemmas
-pub mod KnownLemmas
-pub mod NameLemmas
-pub mod WordLemmas

@@ -1,0 +1,12 @@
+use Rattle.std.proofs.lemmas.Result.{on_ok_weaker}
+use Rattle.layout_state.proofs.CallLemmas.{said, unsaid}
+use Rattle.layout_state.proofs.laying.LayoutState.add_border_of.Goals as goal
+
+pub returns-clause-done : goal.returns-clause-done
+returns-clause-done g c = on_ok_weaker c.add_horizontal_border_width.result
+    (λ h. λ tag p. said _ _ _ _ _ c.current_mut.ensures.sub (h tag p))
+    c.add_horizontal_border_width.ensures.outcome.done
+
+pub returns-clause-narrow : goal.returns-clause-narrow
+returns-clause-narrow g c = λ e. λ tag p.
+    unsaid _ _ _ _ c.current_mut.ensures.sub (c.add_horizontal_border_width.ensures.outcome.narrow e tag p)

@@ -1,0 +1,28 @@
+use Rattle.std.proofs.Common.{◌≡◌, Err, ap}
+use Rattle.std.proofs.lemmas.Result.{err_from_is_err_and, on_ok_weaker}
+use Rattle.text_pieces.specs.declared.fault.BlockError.TheVariants.{TooNarrow}
+use Rattle.block_renderer.specs.Seen.{marking}
+use Rattle.block_trait.specs.Calls.{ends_line, ends_mark}
+use Rattle.text_decorators.specs.Marks.{emphasis_end}
+use Rattle.layout_state.specs.LayoutState.{says}
+use Rattle.layout_state.proofs.StepLemmas.{turn_off, turn_on}
+use Rattle.layout_state.proofs.laying.LayoutState.end_term.Goals as goal
+
+pub returns-clause-done : goal.returns-clause-done
+returns-clause-done g c = on_ok_weaker c.end_line.result
+    (λ h. λ tag p. turn_on (says (marking g.D.TextDecorator.view tag) (ends_mark emphasis_end))
+    (says (marking g.D.TextDecorator.view tag) ends_line) _ _ _
+    (c.in_ok-end_emphasis.ensures.done tag p) (h tag p)) c.end_line.ensures.done
+
+pub returns-clause-narrow : goal.returns-clause-narrow
+returns-clause-narrow g c = λ e. λ tag p. turn_on (says (marking g.D.TextDecorator.view tag) (ends_mark emphasis_end))
+    (says (marking g.D.TextDecorator.view tag) ends_line) _ _ _
+    (c.in_ok-end_emphasis.ensures.done tag p) (c.end_line.ensures.narrow e tag p)
+
+pub returns-in_err-end_emphasis-clause-narrow : goal.returns-in_err-end_emphasis-clause-narrow
+returns-in_err-end_emphasis-clause-narrow g c = λ e. λ tag p.
+    let q = err_from_is_err_and c.from_residual.result c.from_residual.ensures.1 in
+    let same : c.in_err-end_emphasis.field-0.0 ≡ TooNarrow = cc (q.1, q.2, e) in
+    turn_off (says (marking g.D.TextDecorator.view tag) (ends_mark emphasis_end))
+    (says (marking g.D.TextDecorator.view tag) ends_line) _
+    (c.in_err-end_emphasis.ensures.narrow (ap Err same) tag p)

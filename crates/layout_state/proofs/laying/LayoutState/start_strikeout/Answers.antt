@@ -1,0 +1,11 @@
+use Rattle.std.proofs.lemmas.Result.{on_ok_weaker}
+use Rattle.layout_state.proofs.CallLemmas.{said, unsaid}
+use Rattle.layout_state.proofs.laying.LayoutState.start_strikeout.Goals as goal
+
+pub returns-clause-done : goal.returns-clause-done
+returns-clause-done g c = on_ok_weaker c.start_strikeout.result
+    (λ h. λ tag p. said _ _ _ _ _ c.current_mut.ensures.sub (h tag p)) c.start_strikeout.ensures.outcome.done
+
+pub returns-clause-narrow : goal.returns-clause-narrow
+returns-clause-narrow g c = λ e. λ tag p.
+    unsaid _ _ _ _ c.current_mut.ensures.sub (c.start_strikeout.ensures.outcome.narrow e tag p)

@@ -1,0 +1,4 @@
+pub mod Begins
+pub mod Items
+pub mod LayoutState
+pub mod Seen

@@ -1,0 +1,96 @@
+//! A table before its first row and after its last.
+ghost use Rattle.std.specs.Prelude.{◌≡◌, ◌⊎◌, Err, IfErr, IfOk, OnOk};
+ghost use Rattle.table_widths.specs.Shares.{AreSized};
+ghost use Rattle.layout_state.specs.Seen.{Comes, Fails, IsWorking, place_of, widths_seen};
+ghost use Rattle.layout_tables.specs.Tables.{fence, is_fenced, rows_of, table_widths, top_border};
+ghost use Rattle.table_widths.specs.Tables.{rows_left, table_seen};
+ghost use Rattle.text_pieces.specs.declared.fault.BlockError.TheVariants as errors;
+
+use crate::slots::separated;
+use block_trait::RenderOptions;
+use layout_state::{LayoutState, TablePlace};
+use std::alloc::{AllocError, Global};
+use table_grid::Column;
+use table_widths::{RowsLeft, Table, widths_across};
+use text_decorators::TextDecorator;
+use text_pieces::BlockError;
+
+/// The widths of a table's columns in so many columns of text, where its rows lie across; none where raw tables are
+/// asked for, or the columns' leasts do not fit. The error is allocation failure.
+pub fn table_widths(
+    alloc: Global,
+    options: &RenderOptions,
+    width: usize,
+    columns: &[Column],
+) -> Result<Option<Vec<usize>>, AllocError>
+    requires sized { AreSized columns.now }
+    ensures { IfOk result (λ r. widths_seen r ≡ table_widths options.now width columns.now) }
+{
+    if options.raw {
+        return Ok(None);
+    }
+    widths_across(alloc, columns, width)
+}
+
+/// The rows of a table: across where its columns have widths, else with cells below one another.
+pub fn rows_of(alloc: Global, widths: &Option<Vec<usize>>, table: Table) -> RowsLeft
+    ensures { rows_left result ≡ rows_of (widths_seen widths.now) (table_seen table) }
+{
+    match widths {
+        None => table.rows_below(alloc),
+        Some(_) => table.rows_across(alloc),
+    }
+}
+
+/// Whether a table is fenced: where that is asked for, and it stands in no cell of another.
+pub fn is_fenced<D: TextDecorator>(options: &RenderOptions, place: &TablePlace<D>) -> bool
+    ensures { result ≡ is_fenced options.now (place_of D.Annotation.seen D.view.held place.now) }
+{
+    match place {
+        TablePlace::Outside { in_cell } => options.fence_tables && !*in_cell,
+        _ => false,
+    }
+}
+
+/// The line above a table that is fenced, and the one below it. The error is `TooNarrow` where a character is wider
+/// than its line and may not stand alone, else `Memory`.
+pub fn fence<D: TextDecorator + Drop>(
+    laying: &mut LayoutState<D>,
+    fenced: bool,
+) -> Result<(), BlockError>
+    requires { IsWorking D.Annotation.seen D.view.held laying.old }
+    ensures done { OnOk result (Comes D.Annotation.seen D.view (λ m. fence m fenced) laying.old laying.new) }
+    ensures works { OnOk result (IsWorking D.Annotation.seen D.view.held laying.new) }
+    ensures narrow { result ≡ Err errors.TooNarrow → Fails D.Annotation.seen D.view (λ m. fence m fenced) laying.old }
+    ensures kinds { IfErr result (λ e. (e ≡ errors.TooNarrow) ⊎ (e ≡ errors.Memory)) }
+{
+    if !fenced {
+        return Ok(());
+    }
+    laying.add_text("```")?;
+    laying.end_line()
+}
+
+/// The border above the first row, where borders are drawn. The error is `TooNarrow` where there is no room for it,
+/// else `Memory`.
+pub fn top_border<D: TextDecorator + Drop>(
+    laying: &mut LayoutState<D>,
+    options: &RenderOptions,
+    widths: &Option<Vec<usize>>,
+) -> Result<(), BlockError>
+    requires { IsWorking D.Annotation.seen D.view.held laying.old }
+    ensures done { OnOk result (Comes D.Annotation.seen D.view (λ m. top_border m options.now (widths_seen widths.now))
+        laying.old laying.new) }
+    ensures works { OnOk result (IsWorking D.Annotation.seen D.view.held laying.new) }
+    ensures narrow { result ≡ Err errors.TooNarrow → Fails D.Annotation.seen D.view
+        (λ m. top_border m options.now (widths_seen widths.now)) laying.old }
+    ensures kinds { IfErr result (λ e. (e ≡ errors.TooNarrow) ⊎ (e ≡ errors.Memory)) }
+{
+    if !options.draw_borders {
+        return Ok(());
+    }
+    match widths {
+        None => laying.add_border(),
+        Some(widths) => laying.add_border_of(separated(widths.as_slice())),
+    }
+}

@@ -1,0 +1,3 @@
+pub mod Lay
+pub mod Seen
+pub mod Continuation

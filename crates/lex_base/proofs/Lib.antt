@@ -1,0 +1,16 @@
+pub mod FindLemmas
+pub mod JsonLemmas
+pub mod KnownLemmas
+pub mod LongerNames
+pub mod LongestNames
+pub mod NameLemmas
+pub mod NameTests
+pub mod PairsRead
+pub mod SortedEntries
+pub mod SoundReferences
+pub mod TableBeginnings
+pub mod TableSearch
+pub mod TextFronts
+pub mod TextOrder
+pub mod Utf8Order
+pub mod WordLemmas

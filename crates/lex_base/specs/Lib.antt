@@ -1,0 +1,10 @@
+pub mod Device
+pub mod Json
+pub mod Known
+pub mod KnownPart
+pub mod Lookup
+pub mod References
+pub mod Shown
+pub mod Table
+pub mod Texts
+pub mod Words

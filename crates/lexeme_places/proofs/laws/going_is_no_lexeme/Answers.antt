@@ -1,5 +1,0 @@
-use Rattle.lexeme_places.proofs.GoingOpen.{going_open}
-use Rattle.lexeme_places.proofs.laws.going_is_no_lexeme.Goals as goal
-
-pub returns : goal.returns
-returns c = λ foreign mode place held h. going_open c.args.table.now foreign mode place held c.names_are_names.ensures h

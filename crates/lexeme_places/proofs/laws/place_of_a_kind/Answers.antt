@@ -1,5 +1,0 @@
-use Rattle.lexeme_places.proofs.PlaceKindLemmas.{at_place}
-use Rattle.lexeme_places.proofs.laws.place_of_a_kind.Goals as goal
-
-pub returns : goal.returns
-returns c = λ table foreign mode place held h. at_place table foreign mode place held h

@@ -1,9 +1,0 @@
-use Rattle.std.proofs.Common.{rules}
-use Rattle.lexeme_places.proofs.SectionLemmas.{shifts, text-two}
-use Rattle.lexeme_places.proofs.section_turns.behind_brackets.Goals as goal
-
-pub returns-in-93 : goal.returns-in-93
-returns-in-93 c mode = shifts mode c.args.c c.in-93.is
-
-pub returns-in_default : goal.returns-in_default
-returns-in_default c mode = text-two mode c.args.c (search rules) (search rules)

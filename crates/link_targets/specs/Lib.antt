@@ -1,3 +1,0 @@
-pub mod Links
-pub mod Seen
-pub mod Targets

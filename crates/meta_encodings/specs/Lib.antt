@@ -1,2 +1,0 @@
-pub mod Encodings
-pub mod RowWords

@@ -1,2 +1,0 @@
-pub mod CountLemmas
-pub mod SetLemmas

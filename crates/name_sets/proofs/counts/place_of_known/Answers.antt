@@ -1,6 +1,0 @@
-use Rattle.std.proofs.Common.{◌∙◌}
-use Rattle.name_sets.proofs.CountLemmas.{place_in_table}
-use Rattle.name_sets.proofs.counts.place_of_known.Goals as goal
-
-pub returns : goal.returns
-returns c = c.from.ensures ∙ place_in_table c.args.places.now _ c.args.known c.requires

@@ -1,6 +1,0 @@
-use Rattle.std.proofs.Common.{refl}
-use Rattle.name_sets.specs.ElementSets.{table_text_places}
-use Rattle.name_sets.proofs.element_sets.collects_table_text.Goals as goal
-
-pub returns : goal.returns
-returns c = c.is_html_in.ensures table_text_places.html refl refl

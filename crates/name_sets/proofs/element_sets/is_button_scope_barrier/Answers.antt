@@ -1,6 +1,0 @@
-use Rattle.std.proofs.Common.{refl, ◌++◌, ◌∷◌, [], codes}
-use Rattle.name_sets.specs.ElementSets.{html_barriers}
-use Rattle.name_sets.proofs.element_sets.is_button_scope_barrier.Goals as goal
-
-pub returns : goal.returns
-returns c = c.is_barrier.ensures (html_barriers ++ codes "button" ∷ []) refl refl

@@ -1,6 +1,0 @@
-use Rattle.std.proofs.Common.{refl}
-use Rattle.name_sets.specs.ElementSets.{foster_targets}
-use Rattle.name_sets.proofs.element_sets.is_foster_target.Goals as goal
-
-pub returns : goal.returns
-returns c = c.is_html_in.ensures foster_targets.html refl refl

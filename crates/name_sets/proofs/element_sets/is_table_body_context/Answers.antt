@@ -1,6 +1,0 @@
-use Rattle.std.proofs.Common.{refl}
-use Rattle.name_sets.specs.ElementSets.{table_body_context}
-use Rattle.name_sets.proofs.element_sets.is_table_body_context.Goals as goal
-
-pub returns : goal.returns
-returns c = c.is_html_in.ensures table_body_context.html refl refl

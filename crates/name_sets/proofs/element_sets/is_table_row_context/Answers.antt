@@ -1,6 +1,0 @@
-use Rattle.std.proofs.Common.{refl}
-use Rattle.name_sets.specs.ElementSets.{table_row_context}
-use Rattle.name_sets.proofs.element_sets.is_table_row_context.Goals as goal
-
-pub returns : goal.returns
-returns c = c.is_html_in.ensures table_row_context.html refl refl

@@ -1,6 +1,0 @@
-use Rattle.std.proofs.Common.{refl}
-use Rattle.name_sets.specs.ElementSets.{table_scope_barriers}
-use Rattle.name_sets.proofs.element_sets.is_table_scope_barrier.Goals as goal
-
-pub returns : goal.returns
-returns c = c.is_html_in.ensures table_scope_barriers.html refl refl

@@ -1,7 +1,0 @@
-use Rattle.std.proofs.Common.{◌≡◌, IsTrue, chars, drop}
-use Rattle.name_sets.specs.Sets.{are_ascii, is_one_of, words_of}
-use Rattle.name_sets.proofs.sets.is_one_of.Given as goal
-
-abbrev pub invariant-loop-word : goal.invariant-loop-word
-invariant-loop-word l = IsTrue (are_ascii (words_of (drop l.word-index l.words)))
-    × (is_one_of (words_of l.words) (chars l.name) ≡ is_one_of (words_of (drop l.word-index l.words)) (chars l.name))

@@ -1,6 +1,0 @@
-pub mod Counts
-pub mod ElementSets
-pub mod RowWords
-pub mod Sets
-pub mod TagSets
-pub mod Wanted

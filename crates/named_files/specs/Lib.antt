@@ -1,2 +1,0 @@
-pub mod OpenedFiles
-pub mod TableFiles

@@ -1,9 +1,0 @@
-pub mod Filling
-pub mod Greedy
-pub mod Layout
-pub mod Letters
-pub mod MarkedStates
-pub mod MarkedTags
-pub mod NormalStates
-pub mod Riders
-pub mod Units

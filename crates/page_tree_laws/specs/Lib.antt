@@ -1,0 +1,3 @@
+pub mod KeptText
+pub mod PageTexts
+pub mod Skeleton

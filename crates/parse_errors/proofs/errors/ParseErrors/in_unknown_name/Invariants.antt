@@ -1,7 +1,0 @@
-use Rattle.parse_errors.specs.Found.{GoesOn}
-use Rattle.parse_errors.proofs.errors.ParseErrors.in_unknown_name.Given as goal
-
-abbrev pub invariant-characters : goal.invariant-characters
-invariant-characters l = record {
-  found : GoesOn l.fn.self l.self;
-}

@@ -1,2 +1,0 @@
-pub mod SameContents
-pub mod SameLayouts

@@ -1,3 +1,0 @@
-pub mod PlainArticles
-pub mod PlainContents
-pub mod PlainLayouts

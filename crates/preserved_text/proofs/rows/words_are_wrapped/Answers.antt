@@ -1,9 +1,0 @@
-use Rattle.std.proofs.Common.{refl}
-use Rattle.unicode_width.specs.Width.{char_width}
-use Rattle.tagged_lines.specs.Columns.{columns_of, width_of}
-use Rattle.preserved_text.specs.Preserved.{preserved_lines, kind_of}
-use Rattle.preserved_text.proofs.rows.words_are_wrapped.Goals as goal
-
-pub returns : goal.returns
-unfolding preserved_lines kind_of columns_of width_of char_width
-returns c = refl

@@ -1,6 +1,0 @@
-pub mod Asked
-pub mod Contents
-pub mod Planted
-pub mod Parts
-pub mod Rebuilt
-pub mod Rows

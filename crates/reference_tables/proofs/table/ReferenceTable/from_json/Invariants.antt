@@ -1,8 +1,0 @@
-use Rattle.std.proofs.Common.{◌≡◌}
-use Rattle.serde_json.specs.View.{members_view}
-use Rattle.reference_tables.specs.Json.{references_in, table_of_json}
-use Rattle.reference_tables.proofs.JsonLemmas.{filled}
-use Rattle.reference_tables.proofs.table.ReferenceTable.from_json.Given as goal
-
-abbrev pub invariant-members : goal.invariant-members
-invariant-members l = filled l.table (references_in (members_view l.key-iterator)) ≡ table_of_json l.text

@@ -1,6 +1,0 @@
-pub mod Json
-pub mod Lookup
-pub mod References
-pub mod Shown
-pub mod Table
-pub use Rattle.owned_texts.specs.Texts

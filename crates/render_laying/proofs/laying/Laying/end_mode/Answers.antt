@@ -1,5 +1,0 @@
-use Rattle.render_laying.proofs.CallLemmas.{said}
-use Rattle.render_laying.proofs.laying.Laying.end_mode.Goals as goal
-
-pub returns-clause-done : goal.returns-clause-done
-returns-clause-done g c = λ tag p. said _ _ _ _ _ c.current_mut.ensures.sub (c.pop_ws.ensures.done tag p)

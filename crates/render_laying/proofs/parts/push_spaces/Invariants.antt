@@ -1,6 +1,0 @@
-use Rattle.std.proofs.Common.{◌≡◌, ◌++◌, chars, string_bytes}
-use Rattle.render_laying.specs.Items.{spaces}
-use Rattle.render_laying.proofs.parts.push_spaces.Given as goal
-
-abbrev pub invariant-spaces : goal.invariant-spaces
-invariant-spaces l = chars (string_bytes l.text) ≡ chars (string_bytes l.fn.text) ++ spaces l._space

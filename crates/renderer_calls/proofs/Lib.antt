@@ -1,4 +1,0 @@
-pub mod StrikingLemmas
-pub mod StackLemmas
-pub mod ImageLemmas
-pub mod TextLemmas

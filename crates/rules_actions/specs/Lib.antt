@@ -1,0 +1,4 @@
+pub mod Follows
+pub mod Forms
+pub mod Outcomes
+pub mod Parsed

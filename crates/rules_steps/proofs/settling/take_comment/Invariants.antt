@@ -1,0 +1,18 @@
+use Rattle.std.proofs.Common.{◌≡◌}
+use Rattle.rules_actions.specs.Parsed.{parsed}
+use Rattle.rules_table.specs.Rank.{rank}
+use Rattle.rules_table.specs.Settling.{Ready, taken}
+use Rattle.rules_table.specs.State.{comment}
+use Rattle.rules_steps.proofs.settling.take_comment.Given as goal
+
+abbrev pub invariant-rules : goal.invariant-rules
+invariant-rules g l =
+    let tree = g.S.TreeSink in
+    let now = parsed tree.view l.page.kept l.page.tree.held l.page.tree.sink in
+    let first = parsed tree.view l.fn.page.kept l.fn.page.tree.held l.fn.page.tree.sink in
+    record { ready : Ready now; same : taken (comment l.fn.text) now ≡ taken (comment l.fn.text) first }
+
+abbrev pub decreases-rules : goal.decreases-rules
+decreases-rules g l =
+    let tree = g.S.TreeSink in
+    rank (comment l.fn.text) (parsed tree.view l.page.kept l.page.tree.held l.page.tree.sink)

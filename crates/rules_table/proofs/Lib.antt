@@ -1,0 +1,2 @@
+pub mod EncodingLemmas
+pub mod ReadyLemmas

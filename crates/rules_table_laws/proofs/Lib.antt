@@ -1,0 +1,14 @@
+pub mod ActionLemmas
+pub mod CountLemmas
+pub mod EndFalls
+pub mod FallForms
+pub mod FallLemmas
+pub mod LessLemmas
+pub mod OnceLemmas
+pub mod PartFalls
+pub mod PlaceBounds
+pub mod RowFalls
+pub mod SettleLemmas
+pub mod StartFalls
+pub mod TextLemmas
+pub mod TopLemmas

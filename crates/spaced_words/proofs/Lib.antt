@@ -1,2 +1,0 @@
-pub mod SpacedLemmas
-pub mod SpacedEnds

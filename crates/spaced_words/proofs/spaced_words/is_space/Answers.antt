@@ -1,6 +1,0 @@
-use Rattle.std.proofs.Common.{sym, ◌∙◌}
-use Rattle.spaced_words.proofs.SpacedEnds.{space_only}
-use Rattle.spaced_words.proofs.spaced_words.is_space.Goals as goal
-
-pub returns : goal.returns
-returns c = λ e. space_only c.args.text.now (sym c.eq.ensures ∙ e)

@@ -1,4 +1,0 @@
-mod KeyLemmas
-mod CascadeLemmas
-mod StyleLemmas
-mod FunctionLemmas

@@ -1,8 +1,0 @@
-use Rattle.style_cascade.proofs.FunctionLemmas.{cascade_holds, cascaded_is}
-use Rattle.style_cascade.proofs.laws.the_cascade_is_a_function.Goals as goal
-
-pub returns-clause-one : goal.returns-clause-one
-returns-clause-one g c = λ ds one. cascaded_is ds one
-
-pub returns-clause-holds : goal.returns-clause-holds
-returns-clause-holds g c = λ ds. cascade_holds ds

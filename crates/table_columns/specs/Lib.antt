@@ -1,3 +1,0 @@
-pub mod Columns
-pub mod RowWords
-pub mod Windows

@@ -1,7 +1,0 @@
-use Rattle.table_grid.proofs.OneLemmas.{one_grid}
-use Rattle.table_grid.proofs.laws.one_grid.Goals as goal
-
-pub returns : goal.returns
-returns c = λ cells columns others grid grid_too gaps gaps_too one other.
-    one_grid c.cells_have_one_place.ensures.places c.cells_have_one_place.ensures.gaps cells columns others grid
-    grid_too gaps gaps_too one other

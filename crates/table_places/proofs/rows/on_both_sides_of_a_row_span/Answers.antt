@@ -1,8 +1,0 @@
-use Rattle.std.proofs.Common.{[], ◌∷◌, refl}
-use Rattle.table_places.specs.RowWords.{at}
-use Rattle.table_places.proofs.CheckLemmas.{are_placed, stand, fits_at, none_before, is_clear}
-use Rattle.table_places.proofs.rows.on_both_sides_of_a_row_span.Goals as goal
-
-pub returns : goal.returns
-unfolding stand fits_at none_before is_clear
-returns c = are_placed (at 0 0 1 1 ∷ at 1 0 1 2 ∷ at 2 0 1 1 ∷ at 0 1 1 1 ∷ at 2 1 1 1 ∷ []) refl

@@ -1,8 +1,0 @@
-use Rattle.std.proofs.Common.{arith}
-use Rattle.table_places.proofs.WithoutLemmas.{kept_end}
-use Rattle.table_places.proofs.without.covers_without.Goals as goal
-
-pub returns : goal.returns
-returns c =
-    kept_end c.args.covers.now c.args.ended.now c.loop-i.i c.loop-i.at c.loop-i.behind c.loop-i.kept.items (omega arith)
-    c.loop-i.invariant

@@ -1,5 +1,0 @@
-use Rattle.table_places.specs.Without.{IsKept}
-use Rattle.table_places.proofs.without.covers_without.Given as goal
-
-abbrev pub invariant-loop-i : goal.invariant-loop-i
-invariant-loop-i l = IsKept l.covers l.ended l.i l.at l.behind l.kept.items

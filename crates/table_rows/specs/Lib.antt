@@ -1,4 +1,0 @@
-pub mod RowLaws
-pub mod RowParts
-pub mod Slots
-pub mod Tables

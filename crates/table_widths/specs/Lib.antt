@@ -1,0 +1,12 @@
+pub mod Across
+pub mod Edges
+pub mod OneByOne
+pub mod RowLaws
+pub mod RowParts
+pub mod ShareRowWords
+pub mod Shares
+pub mod Slots
+pub mod Tables
+pub mod TheWidths
+pub mod WidthRowWords
+pub mod Widths

@@ -1,5 +1,0 @@
-use Rattle.tag_groups.proofs.GroupLemmas.{is_of_formatting}
-use Rattle.tag_groups.proofs.group.formatting_groups_are_formatting.Goals as goal
-
-pub returns : goal.returns
-returns c name is = is_of_formatting name is

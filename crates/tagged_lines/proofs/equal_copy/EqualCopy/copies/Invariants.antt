@@ -1,5 +1,0 @@
-use Rattle.std.proofs.Common.{◌≡◌, take, map}
-use Rattle.tagged_lines.proofs.equal_copy.EqualCopy.copies.Given as goal
-
-abbrev pub invariant-loop-tag : goal.invariant-loop-tag
-invariant-loop-tag g l = map g.Self.EqualCopy.seen l.copies.items ≡ map g.Self.EqualCopy.seen (take l.tag-index l.tags)

@@ -1,7 +1,0 @@
-use Rattle.std.proofs.Common.{◌++◌, ap}
-use Rattle.std.proofs.lemmas.Str.{chars-nil}
-use Rattle.tagged_lines.specs.Elements.{elements_text}
-use Rattle.tagged_lines.proofs.line_iterators.LineChars.new.Goals as goal
-
-pub returns : goal.returns
-returns g c = ap (λ cs. cs ++ elements_text c.args.elements.now) chars-nil

@@ -1,9 +1,0 @@
-use Rattle.std.proofs.Common.{◌≡◌, length}
-use Rattle.tagged_lines.specs.Iterating.{strings_left}
-use Rattle.tagged_lines.proofs.line_iterators.TaggedStringsIterator.next.Given as goal
-
-abbrev pub invariant-loop-first : goal.invariant-loop-first
-invariant-loop-first g l = strings_left l.self ≡ strings_left l.fn.self
-
-abbrev pub decreases-loop-first : goal.decreases-loop-first
-decreases-loop-first g l = length l.self.elements.now

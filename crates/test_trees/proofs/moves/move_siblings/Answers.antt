@@ -1,0 +1,75 @@
+use Rattle.std.proofs.Common.{refl}
+use Rattle.test_trees.proofs.Computed.{node_before, node_below}
+use Rattle.test_trees.proofs.moves.move_siblings.Goals as goal
+
+pub append-requires : goal.append-requires
+append-requires g c =
+    rw (c.in_ok-a.ensures.forest, c.in_ok-a.ensures.number, c.requires, c.get_document-document.ensures)
+    (node_below 0 1 _ refl refl)
+
+pub append-requires-2 : goal.append-requires-2
+append-requires-2 g c =
+    rw (
+      c.in_ok-b.ensures.forest,
+      c.in_ok-b.ensures.number,
+      c.in_ok-append.ensures.forest,
+      c.in_ok-a.ensures.forest,
+      c.in_ok-a.ensures.number,
+      c.requires,
+      c.get_document-document.ensures,
+    )
+    (node_below 0 2 _ refl refl)
+
+pub append-requires-3 : goal.append-requires-3
+append-requires-3 g c =
+    rw (
+      c.in_ok-c.ensures.forest,
+      c.in_ok-c.ensures.number,
+      c.in_ok-append-2.ensures.forest,
+      c.in_ok-b.ensures.forest,
+      c.in_ok-b.ensures.number,
+      c.in_ok-append.ensures.forest,
+      c.in_ok-a.ensures.forest,
+      c.in_ok-a.ensures.number,
+      c.requires,
+      c.get_document-document.ensures,
+    )
+    (node_below 0 3 _ refl refl)
+
+pub append_before_sibling-requires : goal.append_before_sibling-requires
+append_before_sibling-requires g c =
+    rw (
+      c.in_ok-remove_from_parent.ensures.forest,
+      c.in_ok-append-3.ensures.forest,
+      c.in_ok-c.ensures.forest,
+      c.in_ok-c.ensures.number,
+      c.in_ok-append-2.ensures.forest,
+      c.in_ok-b.ensures.forest,
+      c.in_ok-b.ensures.number,
+      c.in_ok-append.ensures.forest,
+      c.in_ok-a.ensures.forest,
+      c.in_ok-a.ensures.number,
+      c.requires,
+      c.get_document-document.ensures,
+    )
+    (node_before 0 2 1 _ refl refl)
+
+pub append-requires-4 : goal.append-requires-4
+append-requires-4 g c =
+    rw (
+      c.in_ok-remove_from_parent-2.ensures.forest,
+      c.in_ok-append_before_sibling.ensures.forest,
+      c.in_ok-remove_from_parent.ensures.forest,
+      c.in_ok-append-3.ensures.forest,
+      c.in_ok-c.ensures.forest,
+      c.in_ok-c.ensures.number,
+      c.in_ok-append-2.ensures.forest,
+      c.in_ok-b.ensures.forest,
+      c.in_ok-b.ensures.number,
+      c.in_ok-append.ensures.forest,
+      c.in_ok-a.ensures.forest,
+      c.in_ok-a.ensures.number,
+      c.requires,
+      c.get_document-document.ensures,
+    )
+    (node_below 0 2 _ refl refl)

@@ -1,0 +1,19 @@
+//! Laws of the targets of links: each is the contract of a function that does nothing.
+ghost use Rattle.std.specs.Prelude.{◌≡◌, ℕ, ◌-◌, List, [], ◌∷◌, ◌++◌, Some, slice_get, true, if◌then◌else◌};
+ghost use Rattle.std.specs.List.{count_by};
+ghost use Rattle.text_pieces.specs.Sources.{is_filled};
+ghost use Rattle.text_footnotes.specs.Targets.{distinct, has_text, is_same_text, last_number, number_among};
+
+/// Where links to equal targets share a footnote, each target has just one (`once`), the number after a link is that
+/// of its target's footnote (`number`), and it stays so whatever links follow (`stays`); there are footnotes where
+/// there are links (`some`).
+pub fn links_share_footnotes()
+    ensures once { (targets : List (List ℕ)) (target : List ℕ)
+        → count_by (is_same_text target) (distinct targets) ≡ (if has_text targets target then 1 else 0) }
+    ensures number { (targets : List (List ℕ)) (target : List ℕ)
+        → slice_get (distinct (targets ++ target ∷ [])) (last_number true (targets ++ target ∷ []) - 1)
+        ≡ Some target }
+    ensures stays { (targets more : List (List ℕ)) (target : List ℕ) → has_text targets target ≡ true
+        → number_among (distinct (targets ++ more)) (Some target) ≡ number_among (distinct targets) (Some target) }
+    ensures some { (targets : List (List ℕ)) → is_filled (distinct targets) ≡ is_filled targets }
+{}

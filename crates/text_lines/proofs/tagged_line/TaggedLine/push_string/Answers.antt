@@ -1,0 +1,19 @@
+use Rattle.std.proofs.Common.{◌≡◌, ◌+◌, arith, chars, string_bytes}
+use Rattle.text_lines.proofs.Joins.{same_columns, text_added}
+use Rattle.text_lines.proofs.tagged_line.TaggedLine.push_string.Goals as goal
+
+pub invariant_of-self : goal.invariant_of-self
+invariant_of-self g c =
+    record {
+      counted = same_columns g.T.EqualCopy.seen c.args.self.now.elements.items _ _ c.in_err-push_string.ensures.err
+          c.args.self.now.counted;
+    }
+
+pub invariant_of-self-2 : goal.invariant_of-self-2
+invariant_of-self-2 g c =
+    let sum : c.in_ok-total.total ≡ c.args.self.now.columns + c.args.columns = grind arith in
+    record {
+      counted =
+          text_added g.T.EqualCopy.seen c.args.self.now.elements.items _ (chars (string_bytes c.args.text)) _ _ _ _
+          c.in_ok-push_string.ensures.ok c.args.self.now.counted c.requires sum;
+    }

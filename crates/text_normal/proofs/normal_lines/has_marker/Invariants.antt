@@ -1,0 +1,11 @@
+use Rattle.std.proofs.Common.{◌≡◌, length}
+use Rattle.text_pieces.specs.Sources.{sources_of}
+use Rattle.text_normal.specs.Letters.{has_marker}
+use Rattle.text_normal.proofs.normal_lines.has_marker.Given as goal
+
+abbrev pub invariant-loop-first : goal.invariant-loop-first
+invariant-loop-first g l =
+    has_marker (sources_of g.T.EqualCopy.seen l.pieces) ≡ has_marker (sources_of g.T.EqualCopy.seen l.rest)
+
+abbrev pub decreases-loop-first : goal.decreases-loop-first
+decreases-loop-first g l = length l.rest

@@ -1,0 +1,10 @@
+pub mod Filling
+pub mod Greedy
+pub mod Layout
+pub mod Letters
+pub mod MarkedStates
+pub mod MarkedTags
+pub mod NormalStates
+pub mod Riders
+pub mod SpacedWords
+pub mod Units

@@ -1,0 +1,27 @@
+use Rattle.std.proofs.Common.{refl, sym, ap, ◌∙◌, chars}
+use Rattle.std.proofs.lemmas.Str.{chars-nil, chars_past_char}
+use Rattle.text_pieces.specs.Sources.{sourced}
+use Rattle.text_preserved.specs.Pass.{read_all}
+use Rattle.text_preserved.specs.SourceLines.{pass_of}
+use Rattle.text_preserved.proofs.source_line.SourceLine.read_text.Goals as goal
+
+pub loop-c-preserved : goal.loop-c-preserved
+loop-c-preserved g c =
+    let seen = g.T.EqualCopy.seen in
+    let main = seen c.args.main_tag.now in
+    let further = seen c.args.wrap_tag.now in
+    record {
+      text = c.in_ok-rest-2.ensures.text;
+      pass = c.in_ok-rest-2.ensures.pass
+          ∙ ap (λ p. read_all p (sourced (chars c.in-Some.after.now) main further)) c.in_ok-read_char.ensures.pass
+          ∙ ap (λ cs. read_all (pass_of seen c.loop-c.self) (sourced cs main further))
+          (sym (chars_past_char c.loop-c.rest.now c.in-Some.after.now c.in-Some.c c.loop-c.invariant.text
+          c.in-Some.ensures.first)) ∙ c.loop-c.invariant.pass;
+      joined = λ h. c.read_front-in-Some.ensures.joined (c.read_char.ensures.joined (c.loop-c.invariant.joined h));
+    }
+
+pub returns-clause-pass : goal.returns-clause-pass
+returns-clause-pass g c =
+    let seen = g.T.EqualCopy.seen in
+    sym (ap (λ cs. read_all (pass_of seen c.loop-c.self) (sourced cs (seen c.args.main_tag.now)
+    (seen c.args.wrap_tag.now))) (ap chars (c.in_default.ensures.none refl) ∙ chars-nil)) ∙ c.loop-c.invariant.pass

@@ -1,7 +1,0 @@
-use Rattle.std.proofs.Common.{rules}
-use Rattle.std.specs.Str.{chars}
-use Rattle.token_lines.proofs.fields.push_null.Goals as goal
-
-pub returns : goal.returns
-unfolding chars
-returns c = search rules

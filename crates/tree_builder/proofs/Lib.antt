@@ -1,3 +1,0 @@
-pub mod BegunLemmas
-pub mod FitLemmas
-pub mod FragmentLemmas

@@ -1,0 +1,13 @@
+use Rattle.std.proofs.Common.{◌≡◌, length}
+use Rattle.tree_formatting.specs.Entries.{entries_of, is_listed, up_to_marker, without_entry}
+use Rattle.tree_formatting.proofs.find.is_after_marker_without.Given as goal
+
+-- neither was passed
+abbrev pub invariant-back : goal.invariant-back
+invariant-back g l = is_listed (g.S.TreeSink.view.number l.target)
+    (up_to_marker (without_entry (g.S.TreeSink.view.number l.without) (entries_of g.S.TreeSink.view.number l.rest)))
+    ≡ is_listed (g.S.TreeSink.view.number l.target)
+    (up_to_marker (without_entry (g.S.TreeSink.view.number l.without) (entries_of g.S.TreeSink.view.number l.entries)))
+
+abbrev pub decreases-back : goal.decreases-back
+decreases-back g l = length l.rest

@@ -1,5 +1,0 @@
-use Rattle.tree_lines.proofs.FuelLemmas.{one_step_on}
-use Rattle.tree_lines.proofs.laws.lines_go_one_step_on.Goals as goal
-
-pub returns : goal.returns
-returns c = one_step_on

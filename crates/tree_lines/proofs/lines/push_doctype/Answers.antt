@@ -1,8 +1,0 @@
-use Rattle.std.proofs.Common.{append_assoc, rules}
-use Rattle.std.proofs.lemmas.Result.{IfOk-equal}
-use Rattle.std.specs.Str.{chars}
-use Rattle.tree_lines.proofs.lines.push_doctype.Goals as goal
-
-pub returns : goal.returns
-unfolding chars
-returns c = search (rules, IfOk-equal, append_assoc)

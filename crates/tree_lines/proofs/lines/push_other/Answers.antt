@@ -1,7 +1,0 @@
-use Rattle.std.proofs.Common.{rules}
-use Rattle.std.specs.Str.{chars}
-use Rattle.tree_lines.proofs.lines.push_other.Goals as goal
-
-pub returns : goal.returns
-unfolding chars
-returns c = search rules

@@ -1,3 +1,0 @@
-pub mod Flags
-pub mod Hearing
-pub mod Lawful

@@ -1,0 +1,12 @@
+use Rattle.std.proofs.Common.{◌≡◌, ℕ, OnOk, subst}
+use Rattle.tree_formatting.specs.Entries.{entries_of}
+use Rattle.tree_formatting.specs.Pushing.{pushed}
+use Rattle.tree_model.specs.Building.{Parts}
+use Rattle.tree_model.proofs.held.Held.push_formatting.Goals as goal
+
+pub returns-clause-entries : goal.returns-clause-entries
+returns-clause-entries g c = subst
+    (λ (p : Parts g.row.H.Denot). OnOk c.push_element.result ((number : g.row.H.Denot → ℕ) →
+    entries_of number c.push_element.new.self
+    ≡ pushed (number c.args.element) c.args.tag (entries_of number p.entries)))
+    c.self.view_is c.push_element.ensures.ok

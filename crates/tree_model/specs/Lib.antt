@@ -1,0 +1,16 @@
+pub mod Adoption
+pub mod Building
+pub mod CanAdopt
+pub mod Foreign
+pub mod Formatting
+pub mod Insertions
+pub mod Laws
+pub mod Names
+pub mod OpenAt
+pub mod OpenElements
+pub mod Orders
+pub mod Points
+pub mod Scopes
+pub mod Sound
+pub mod Walks
+pub mod Words

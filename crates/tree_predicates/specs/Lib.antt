@@ -1,0 +1,5 @@
+pub mod Attributes
+pub mod Foreign
+pub mod Modes
+pub mod Quirks
+pub mod RowWords

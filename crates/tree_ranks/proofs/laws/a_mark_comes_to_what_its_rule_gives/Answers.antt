@@ -1,5 +1,0 @@
-use Rattle.tree_ranks.proofs.SettleLemmas.{taken_by_rule}
-use Rattle.tree_ranks.proofs.laws.a_mark_comes_to_what_its_rule_gives.Goals as goal
-
-pub returns : goal.returns
-returns c = taken_by_rule c.the_rank_falls.ensures c.actions_keep_what_is_ready.ensures

@@ -1,6 +1,0 @@
-use Rattle.std.proofs.Common.{◌≡◌, IfOk, ℕ, List, subst}
-use Rattle.tree_rows.proofs.Computed.{x_codes}
-use Rattle.tree_rows.proofs.texts.x.Goals as goal
-
-pub returns : goal.returns
-returns c = subst (λ (said : List ℕ). IfOk c.from_str.result (λ text. text ≡ said)) x_codes c.from_str.ensures

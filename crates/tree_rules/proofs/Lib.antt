@@ -1,2 +1,0 @@
-pub mod ReadyLemmas
-pub use Rattle.html_tree_state.proofs.OpenLemmas

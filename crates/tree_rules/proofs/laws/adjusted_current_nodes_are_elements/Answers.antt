@@ -1,5 +1,0 @@
-use Rattle.tree_rules.proofs.ReadyLemmas.{adjusted_element}
-use Rattle.tree_rules.proofs.laws.adjusted_current_nodes_are_elements.Goals as goal
-
-pub returns : goal.returns
-returns c = adjusted_element

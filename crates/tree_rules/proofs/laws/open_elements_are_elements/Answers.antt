@@ -1,5 +1,0 @@
-use Rattle.tree_rules.proofs.ReadyLemmas.{is_among}
-use Rattle.tree_rules.proofs.laws.open_elements_are_elements.Goals as goal
-
-pub returns : goal.returns
-returns c = λ n s ready there. ready.sound.elements n (is_among n s.tree.stack there)

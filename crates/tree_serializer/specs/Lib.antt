@@ -1,0 +1,13 @@
+pub mod Calls
+pub mod Defaults
+pub mod Entries
+pub mod Escapes
+pub mod Lent
+pub mod Marks
+pub mod Openings
+pub mod Parts
+pub mod Seen
+pub mod Emitted
+pub mod Walked
+pub mod Walks
+pub mod Writing

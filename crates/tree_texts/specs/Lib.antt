@@ -1,3 +1,0 @@
-pub mod TextClasses
-pub mod TextRuns
-pub use Rattle.tree_ranks.specs.Falls

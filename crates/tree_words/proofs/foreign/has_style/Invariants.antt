@@ -1,8 +1,0 @@
-use Rattle.std.proofs.Common.{◌≡◌, drop}
-use Rattle.tree_words.specs.Attributes.{has_attribute}
-use Rattle.tree_words.specs.Foreign.{styles}
-use Rattle.tree_words.proofs.foreign.has_style.Given as goal
-
-abbrev pub invariant-loop-attribute : goal.invariant-loop-attribute
-invariant-loop-attribute l =
-    has_attribute styles l.attrs ≡ has_attribute styles (drop l.attribute-index l.attribute-items)

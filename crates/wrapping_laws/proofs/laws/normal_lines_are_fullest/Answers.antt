@@ -1,5 +1,0 @@
-use Rattle.normal_text.proofs.PlainLines.{plain_lines_are}
-use Rattle.wrapping_laws.proofs.laws.normal_lines_are_fullest.Goals as goal
-
-pub returns : goal.returns
-returns g c = λ width overflow source none room. plain_lines_are width overflow source none room

@@ -1,5 +1,0 @@
-use Rattle.wrapping_laws.proofs.MarkedKept.{markers_kept}
-use Rattle.wrapping_laws.proofs.laws.normal_lines_keep_markers.Goals as goal
-
-pub returns : goal.returns
-returns g c = λ width source. markers_kept width source

@@ -1,5 +1,0 @@
-use Rattle.wrapping_laws.proofs.MarkedShown.{characters_shown}
-use Rattle.wrapping_laws.proofs.laws.normal_lines_show_each_character.Goals as goal
-
-pub returns : goal.returns
-returns g c = λ width source. characters_shown width source

@@ -1,5 +1,0 @@
-use Rattle.normal_text.proofs.NormalFinal.{lines_within}
-use Rattle.wrapping_laws.proofs.layout_laws.lines_keep_the_width.Goals as goal
-
-pub returns : goal.returns
-returns g c = λ w read lines are. lines_within w read lines are

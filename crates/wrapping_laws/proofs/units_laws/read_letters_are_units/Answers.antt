@@ -1,5 +1,0 @@
-use Rattle.normal_text.proofs.UnitsReading.{read_is_units}
-use Rattle.wrapping_laws.proofs.units_laws.read_letters_are_units.Goals as goal
-
-pub returns : goal.returns
-returns c = record { units = λ w read. read_is_units w read }

@@ -1,4 +1,0 @@
-pub mod Contents
-pub use Rattle.written_trees.specs.Trees
-pub use Rattle.written_trees.specs.Documents
-pub use Rattle.written_trees.specs.Tellings

@@ -1,0 +1,4 @@
+pub mod Documents
+pub mod Emissions
+pub mod Trees
+pub mod Written
