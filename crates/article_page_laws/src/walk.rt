@@ -39,7 +39,7 @@ pub fn values_ask_for_what_the_article_asks()
 
 /// The values of what a paragraph says, none of whose texts is empty, are laid out in a renderer of plain text as the
 /// layout's calls of texts and breaks: what these calls make of the block of lines in the renderer, the values do, and
-/// where the calls come to nothing, the values do. The targets of its links stand after those before it.
+/// where the calls have no result, the values have none. The targets of its links stand after those before it.
 pub fn values_of_a_paragraph_are_its_calls()
     ensures { (given : RenderOptions) (decorates : Bool) (min_wrap : ℕ) (held : Unit {0}) (place : Place)
         (targets : List (List ℕ)) (tag : Tag) (block : Laid Tag) (inlines : Inlines) → AreFilled inlines
@@ -51,7 +51,7 @@ pub fn values_of_a_paragraph_are_its_calls()
 
 /// The values of an article's blocks, none of whose texts is empty, are laid out in a renderer of plain text as the
 /// layout's calls of blocks: headings, quotes and items in renderers of their own, in the room that their prefixes
-/// leave, and nowhere where the calls come to nothing. The targets of their links stand after those before them.
+/// leave, and not at all where the calls have no result. The targets of their links stand after those before them.
 pub fn values_of_blocks_are_their_calls()
     ensures { (given : RenderOptions) (decorates : Bool) (min_wrap : ℕ) (held : Unit {0}) (place : Place)
         (targets : List (List ℕ)) (block : Laid Tag) (blocks : Blocks) → AreFilledBlocks blocks

@@ -40,7 +40,7 @@ in_around around l = record l { around = around }
 abbrev pub in_table : {H A : Type 0} → TablePlace H A → LayoutState H A → LayoutState H A
 in_table place l = record l { table = place }
 
--- What is done: it may come to nothing, where columns are wanting.
+-- What is done: it has no result where columns are wanting.
 abbrev pub Step : Type 0 → Type 0 → Type 0
 Step H A = LayoutState H A → Option (LayoutState H A)
 

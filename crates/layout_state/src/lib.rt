@@ -17,7 +17,7 @@
 //!
 //! layout_state has the page that is laid out: its renderers, what a list around says of the next value, where in
 //! a table that stands; and the calls that values make, each of which is a step of the definition, or refused where
-//! that comes to nothing. layout_tables has what a table makes of it, and layout_values what each value opens and
+//! that has no result. layout_tables has what a table makes of it, and layout_values what each value opens and
 //! what then waits for its end (`specs/Continuation.antt`): what waits comes to the rest of the definition, the last
 //! first.
 //!
