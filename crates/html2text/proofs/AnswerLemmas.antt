@@ -26,7 +26,7 @@ file_refusal N F bytes failed most before after errors.TooLong is = is.1
 file_refusal N F bytes failed most before after errors.Memory is = tt
 
 module _ (asked : Asked) (files : Files) (names : References) (table : IsTableOf files asked.references names)
-    (input : Bytes) (old new : Bytes) (Unread Untouched Silent : Type 0) (Emitted : List ℕ → Type 0) where
+    (input : Bytes) (old new : Bytes) (Unread Untouched Silent : Type 0) (Reported : List ℕ → Type 0) where
   -- the page was that of a device
   abbrev pub Ends : (bytes : Bytes) (read_failed write_failed flushed : Bool) (before after : ℕ)
       → Result (Unit {0}) Error → Type 0
@@ -35,7 +35,7 @@ module _ (asked : Asked) (files : Files) (names : References) (table : IsTableOf
 
   pub page_shown : (read_failed write_failed flushed : Bool) (before after : ℕ) (rf : Bool) (b a : ℕ)
       → Ends (page_bytes files input asked.file) rf write_failed flushed b a (Ok tt) → Silent
-      → IsAnswered asked files input read_failed write_failed flushed before after old new Unread Untouched Silent Emitted
+      → IsAnswered asked files input read_failed write_failed flushed before after old new Unread Untouched Silent Reported
       outcomes.Done
   page_shown read_failed wf fl before after rf b a ends silent =
       (record { names = names; table = table; written = ends.0 }, ends.1, ends.2, silent)
@@ -43,13 +43,13 @@ module _ (asked : Asked) (files : Files) (names : References) (table : IsTableOf
   page_refused : (read_failed write_failed flushed : Bool) (before after : ℕ) (rf : Bool) (b a : ℕ) (error : Error)
       (outcome : Outcome) → outcome ≡ outcomes.Page error
       → IsSourceRefusal asked names files asked.file input (read_failed || write_failed) before after error
-      → Ends (page_bytes files input asked.file) rf write_failed flushed b a (Err error) → Emitted (error_text error)
-      → IsAnswered asked files input read_failed write_failed flushed before after old new Unread Untouched Silent Emitted
+      → Ends (page_bytes files input asked.file) rf write_failed flushed b a (Err error) → Reported (error_text error)
+      → IsAnswered asked files input read_failed write_failed flushed before after old new Unread Untouched Silent Reported
       outcome
-  page_refused read_failed wf fl before after rf b a error outcome is reason ends emitted =
-      subst (IsAnswered asked files input read_failed wf fl before after old new Unread Untouched Silent Emitted)
+  page_refused read_failed wf fl before after rf b a error outcome is reason ends reported =
+      subst (IsAnswered asked files input read_failed wf fl before after old new Unread Untouched Silent Reported)
       (sym is) (
-        emitted,
+        reported,
         record { names = names; table = table; reason = reason },
         elim ends.1 [
           | inl same ↦ inl same
@@ -60,25 +60,25 @@ module _ (asked : Asked) (files : Files) (names : References) (table : IsTableOf
   -- of standard input
   pub shown_here : (rf write_failed flushed : Bool) (before after : ℕ) → asked.file ≡ None
       → Ends input rf write_failed flushed before after (Ok tt) → Silent
-      → IsAnswered asked files input rf write_failed flushed before after old new Unread Untouched Silent Emitted
+      → IsAnswered asked files input rf write_failed flushed before after old new Unread Untouched Silent Reported
       outcomes.Done
   shown_here rf wf fl before after here ends silent = page_shown rf wf fl before after rf before after
       (subst (λ file. Ends (page_bytes files input file) rf wf fl before after (Ok tt)) (sym here) ends) silent
 
   pub refused_here : (rf write_failed flushed : Bool) (before after : ℕ) (error : Error) (outcome : Outcome)
       → outcome ≡ outcomes.Page error → asked.file ≡ None
-      → Ends input rf write_failed flushed before after (Err error) → Emitted (error_text error)
-      → IsAnswered asked files input rf write_failed flushed before after old new Unread Untouched Silent Emitted outcome
-  refused_here rf wf fl before after error outcome is here ends emitted =
+      → Ends input rf write_failed flushed before after (Err error) → Reported (error_text error)
+      → IsAnswered asked files input rf write_failed flushed before after old new Unread Untouched Silent Reported outcome
+  refused_here rf wf fl before after error outcome is here ends reported =
       page_refused rf wf fl before after rf before after error outcome is
       (subst (λ file. IsSourceRefusal asked names files file input (rf || wf) before after error) (sym here) ends.0)
-      (subst (λ file. Ends (page_bytes files input file) rf wf fl before after (Err error)) (sym here) ends) emitted
+      (subst (λ file. Ends (page_bytes files input file) rf wf fl before after (Err error)) (sym here) ends) reported
 
   -- of a file
   pub shown_there : (read_failed write_failed flushed : Bool) (before after : ℕ) (name : List ℕ) (bytes : Bytes)
       (rf : Bool) (b a : ℕ) → asked.file ≡ Some name → bytes ≡ files name
       → Ends bytes rf write_failed flushed b a (Ok tt) → Silent
-      → IsAnswered asked files input read_failed write_failed flushed before after old new Unread Untouched Silent Emitted
+      → IsAnswered asked files input read_failed write_failed flushed before after old new Unread Untouched Silent Reported
       outcomes.Done
   shown_there read_failed wf fl before after name bytes rf b a there known ends silent =
       page_shown read_failed wf fl before after rf b a
@@ -88,17 +88,17 @@ module _ (asked : Asked) (files : Files) (names : References) (table : IsTableOf
   pub refused_there : (read_failed write_failed flushed : Bool) (before after : ℕ) (name : List ℕ) (bytes : Bytes)
       (rf : Bool) (b a : ℕ) (error : Error) (outcome : Outcome) → outcome ≡ outcomes.Page error
       → asked.file ≡ Some name → bytes ≡ files name
-      → Ends bytes rf write_failed flushed b a (Err error) → Emitted (error_text error)
-      → IsAnswered asked files input read_failed write_failed flushed before after old new Unread Untouched Silent Emitted
+      → Ends bytes rf write_failed flushed b a (Err error) → Reported (error_text error)
+      → IsAnswered asked files input read_failed write_failed flushed before after old new Unread Untouched Silent Reported
       outcome
-  refused_there read_failed wf fl before after name bytes rf b a error outcome is there known ends emitted =
+  refused_there read_failed wf fl before after name bytes rf b a error outcome is there known ends reported =
       let named : Ends (files name) rf wf fl b a (Err error) =
       subst (λ page. Ends page rf wf fl b a (Err error)) known ends in
       page_refused read_failed wf fl before after rf b a error outcome is
       (subst (λ file. IsSourceRefusal asked names files file input (read_failed || wf) before after error) (sym there)
       (file_refusal (IsTooNarrowPage asked names) (IsOtherPage asked names) (files name) (rf || wf) (most_bytes asked)
       b a error named.0))
-      (subst (λ file. Ends (page_bytes files input file) rf wf fl b a (Err error)) (sym there) named) emitted
+      (subst (λ file. Ends (page_bytes files input file) rf wf fl b a (Err error)) (sym there) named) reported
 
 -- there was no memory for the basic table
 memory_refusal : (asked : Asked) (names : References) (files : Files) (file : Option (List ℕ)) (input : Bytes)
@@ -108,12 +108,12 @@ memory_refusal asked names files None input failed before after = tt
 memory_refusal asked names files (Some name) input failed before after = tt
 
 pub no_basic : (asked : Asked) (files : Files) (input : Bytes) (rf wf fl : Bool) (before after : ℕ)
-    (old new : Bytes) (Unread Untouched Silent : Type 0) (Emitted : List ℕ → Type 0) (outcome : Outcome)
-    → outcome ≡ outcomes.Page errors.Memory → asked.references ≡ None → Emitted (error_text errors.Memory) → Untouched
-    → IsAnswered asked files input rf wf fl before after old new Unread Untouched Silent Emitted outcome
-no_basic asked files input rf wf fl before after old new Unread Untouched Silent Emitted outcome is none emitted same =
-    subst (IsAnswered asked files input rf wf fl before after old new Unread Untouched Silent Emitted) (sym is) (
-      emitted,
+    (old new : Bytes) (Unread Untouched Silent : Type 0) (Reported : List ℕ → Type 0) (outcome : Outcome)
+    → outcome ≡ outcomes.Page errors.Memory → asked.references ≡ None → Reported (error_text errors.Memory) → Untouched
+    → IsAnswered asked files input rf wf fl before after old new Unread Untouched Silent Reported outcome
+no_basic asked files input rf wf fl before after old new Unread Untouched Silent Reported outcome is none reported same =
+    subst (IsAnswered asked files input rf wf fl before after old new Unread Untouched Silent Reported) (sym is) (
+      reported,
       record {
         names = basic;
         table = subst (λ references. IsTableOf files references basic) (sym none) refl;

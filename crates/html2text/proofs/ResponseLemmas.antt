@@ -100,16 +100,16 @@ statuses outcomes.Table status e = inr (inr (inr e))
 
 -- an answer ends as one of a request may
 pub answered_outcome : (request : Request) (asked : Asked) (files : Files) (input : Bytes) (rf wf fl : Bool)
-    (before after : ℕ) (old new : Bytes) (Unread Untouched Silent : Type 0) (Emitted : List ℕ → Type 0)
+    (before after : ℕ) (old new : Bytes) (Unread Untouched Silent : Type 0) (Reported : List ℕ → Type 0)
     (outcome : Outcome)
-    → IsAnswered asked files input rf wf fl before after old new Unread Untouched Silent Emitted outcome
+    → IsAnswered asked files input rf wf fl before after old new Unread Untouched Silent Reported outcome
     → IsOutcomeOf (Ok request) outcome
-answered_outcome r asked files input rf wf fl b a old new R U S Emitted outcomes.Done is = inl refl
-answered_outcome r asked files input rf wf fl b a old new R U S Emitted (outcomes.Page error) is =
+answered_outcome r asked files input rf wf fl b a old new R U S Reported outcomes.Done is = inl refl
+answered_outcome r asked files input rf wf fl b a old new R U S Reported (outcomes.Page error) is =
     inr (inl (error, refl))
-answered_outcome r asked files input rf wf fl b a old new R U S Emitted outcomes.NotOpened is = inr (inr (inl refl))
-answered_outcome r asked files input rf wf fl b a old new R U S Emitted outcomes.Words is = absurd is
-answered_outcome r asked files input rf wf fl b a old new R U S Emitted outcomes.Table is = inr (inr (inr refl))
+answered_outcome r asked files input rf wf fl b a old new R U S Reported outcomes.NotOpened is = inr (inr (inl refl))
+answered_outcome r asked files input rf wf fl b a old new R U S Reported outcomes.Words is = absurd is
+answered_outcome r asked files input rf wf fl b a old new R U S Reported outcomes.Table is = inr (inr (inr refl))
 
 -- ---- what was written
 
@@ -237,6 +237,6 @@ with_fault (Err error) fault read other = same_fault fault (fault_of_kind (error
 pub refused_with : {A B : Type 0} (words : Result (Vec (String A) B) IoFault) (request : Result Request WordFault)
     (outcome : Outcome) (T : WordFault → Type 0) → IsRead words request → IsOutcomeOf request outcome
     → outcome ≡ outcomes.Words → IfErr request T → (fault : WordFault) × T fault × IsRefusedWith words fault
-refused_with words request outcome T read is w emitted =
+refused_with words request outcome T read is w reported =
     let by = refusing request outcome w is in
-    (by.0, subst (λ r. IfErr r T) by.1 emitted, with_fault words by.0 (subst (IsRead words) by.1 read) by.2)
+    (by.0, subst (λ r. IfErr r T) by.1 reported, with_fault words by.0 (subst (IsRead words) by.1 read) by.2)

@@ -30,20 +30,20 @@ EndsBy IsText Narrow Nothing most bytes read_failed write_failed flushed before 
 
 -- What is asked for was written and passed on, or why it was not, and what was reported of that.
 abbrev pub IsAnswered : Asked → Files → Bytes → (read_failed write_failed flushed : Bool) → (before after : ℕ)
-    → (old new : Bytes) → (Unread Untouched Silent : Type 0) → (Emitted : List ℕ → Type 0) → Outcome → Type 0
-IsAnswered asked files input read_failed write_failed flushed before after old new Unread Untouched Silent Emitted
+    → (old new : Bytes) → (Unread Untouched Silent : Type 0) → (Reported : List ℕ → Type 0) → Outcome → Type 0
+IsAnswered asked files input read_failed write_failed flushed before after old new Unread Untouched Silent Reported
     outcomes.Done =
     ShowsPage asked files input old new × (write_failed ≡ false) × (flushed ≡ true) × Silent
-IsAnswered asked files input read_failed write_failed flushed before after old new Unread Untouched Silent Emitted
+IsAnswered asked files input read_failed write_failed flushed before after old new Unread Untouched Silent Reported
     (outcomes.Page error) =
-    Emitted (error_text error) × IsRefusal asked files input (read_failed || write_failed) before after error
+    Reported (error_text error) × IsRefusal asked files input (read_failed || write_failed) before after error
     × (Untouched ⊎ ((write_failed ≡ true) × ShowsPart asked files input old new))
-IsAnswered asked files input read_failed write_failed flushed before after old new Unread Untouched Silent Emitted
+IsAnswered asked files input read_failed write_failed flushed before after old new Unread Untouched Silent Reported
     outcomes.NotOpened =
-    Emitted (error_text errors.IoError) × Untouched × ((name : List ℕ) × (asked.file ≡ Some name))
-IsAnswered asked files input read_failed write_failed flushed before after old new Unread Untouched Silent Emitted
+    Reported (error_text errors.IoError) × Untouched × ((name : List ℕ) × (asked.file ≡ Some name))
+IsAnswered asked files input read_failed write_failed flushed before after old new Unread Untouched Silent Reported
     outcomes.Table =
-    ((fault : TableFault) × Emitted (fault_text fault) × IsTableRefusal files asked.references fault)
+    ((fault : TableFault) × Reported (fault_text fault) × IsTableRefusal files asked.references fault)
     × Unread × Untouched
-IsAnswered asked files input read_failed write_failed flushed before after old new Unread Untouched Silent Emitted
+IsAnswered asked files input read_failed write_failed flushed before after old new Unread Untouched Silent Reported
     outcomes.Words = ⊥

@@ -95,7 +95,7 @@ pub fn carry_out<F: FileOpener, R: ByteReader, W: ByteWriter, E: ByteWriter>(
     ensures silent { result ≡ Outcome.Done → errors.new ≡ errors.old }
 
     // The page was refused for this error, or a device failed.
-    ensures emitted { (error : Error) → result ≡ Outcome.Page error
+    ensures reported { (error : Error) → result ≡ Outcome.Page error
         → Complains (E.has_failed errors.new) (E.contents errors.old) (E.contents errors.new) (error_text error) }
     ensures reason { (error : Error) → result ≡ Outcome.Page error → IfOk request (λ asked.
         IsRefusal (asked_of asked) (F.bytes_of files.now) (R.remaining input.old)
@@ -126,7 +126,7 @@ pub fn carry_out<F: FileOpener, R: ByteReader, W: ByteWriter, E: ByteWriter>(
 {
     match request {
         Ok(request) => answer(alloc, &request, files, input, output, errors),
-        Err(fault) => emit_fault(&fault, output, errors),
+        Err(fault) => report_fault(&fault, output, errors),
     }
 }
 
@@ -195,10 +195,10 @@ fn show_page<F: FileOpener, R: ByteReader, W: ByteWriter, E: ByteWriter>(
     }
 }
 
-/// Emits why a page was refused.
+/// Reports why a page was refused.
 fn refuse<E: ByteWriter>(errors: &mut E, error: Error) -> Outcome
     ensures outcome { result ≡ Outcome.Page error }
-    ensures emitted { Complains (E.has_failed errors.new) (E.contents errors.old) (E.contents errors.new)
+    ensures reported { Complains (E.has_failed errors.new) (E.contents errors.old) (E.contents errors.new)
         (error_text error) }
 {
     complain(errors, error.text());
@@ -206,7 +206,7 @@ fn refuse<E: ByteWriter>(errors: &mut E, error: Error) -> Outcome
 }
 
 /// Writes the help that was asked for, or says what is wrong with the words.
-fn emit_fault<W: ByteWriter, E: ByteWriter>(
+fn report_fault<W: ByteWriter, E: ByteWriter>(
     fault: &WordFault,
     output: &mut W,
     errors: &mut E,
@@ -216,7 +216,7 @@ fn emit_fault<W: ByteWriter, E: ByteWriter>(
         → WritesAnswer (Err fault.now) files bytes (W.contents output.old) (W.contents output.new) }
     ensures passed_on { result ≡ Outcome.Done → (W.has_failed output.new ≡ false) × (W.was_flushed output.new ≡ true) }
     ensures silent { result ≡ Outcome.Done → errors.new ≡ errors.old }
-    ensures emitted { (error : Error) → result ≡ Outcome.Page error
+    ensures reported { (error : Error) → result ≡ Outcome.Page error
         → Complains (E.has_failed errors.new) (E.contents errors.old) (E.contents errors.new) (error_text error) }
     ensures unwritten { (error : Error) (files : List ℕ → Option (List ℕ)) (bytes : Option (List ℕ))
         → result ≡ Outcome.Page error → (W.has_failed output.new ≡ true)
@@ -240,7 +240,7 @@ fn show_help<W: ByteWriter, E: ByteWriter>(text: &str, output: &mut W, errors: &
     ensures done { result ≡ Outcome.Done → Appends (W.contents output.old) (W.contents output.new) text.now }
     ensures passed_on { result ≡ Outcome.Done → (W.has_failed output.new ≡ false) × (W.was_flushed output.new ≡ true) }
     ensures silent { result ≡ Outcome.Done → errors.new ≡ errors.old }
-    ensures emitted { (error : Error) → result ≡ Outcome.Page error
+    ensures reported { (error : Error) → result ≡ Outcome.Page error
         → Complains (E.has_failed errors.new) (E.contents errors.old) (E.contents errors.new) (error_text error) }
     ensures unwritten { (error : Error) → result ≡ Outcome.Page error → (W.has_failed output.new ≡ true)
         × AppendsPart (W.contents output.old) (W.contents output.new) text.now }
@@ -265,7 +265,7 @@ fn write_through<W: ByteWriter>(output: &mut W, bytes: &[u8]) -> Result<(), Devi
     output.flush()
 }
 
-/// Emits what is wrong.
+/// Reports what is wrong.
 fn complain<E: ByteWriter>(errors: &mut E, text: &str)
     ensures { Complains (E.has_failed errors.new) (E.contents errors.old) (E.contents errors.new) text.now }
 {

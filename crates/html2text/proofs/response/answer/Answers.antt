@@ -18,16 +18,16 @@ returns-in-Err g c =
     (wrote.contents output) (wrote.contents output) (input ≡ input) (output ≡ output) (errors ≡ c.args.errors.now)
     (Complains (g.E.ByteWriter.has_failed errors) (g.E.ByteWriter.contents c.args.errors.now)
     (g.E.ByteWriter.contents errors)) c.refuse.result c.refuse.ensures.outcome
-    (ap (λ references. option_map string_bytes references) c.in-None.is) c.refuse.ensures.emitted refl
+    (ap (λ references. option_map string_bytes references) c.in-None.is) c.refuse.ensures.reported refl
 
 pub returns-in-Err-table_in_file : goal.returns-in-Err-table_in_file
 returns-in-Err-table_in_file g c =
     let files = g.F.FileOpener.bytes_of c.args.files.now in
-    let emitted = λ (text : _). Complains (g.E.ByteWriter.has_failed c.complain.new.errors)
+    let reported = λ (text : _). Complains (g.E.ByteWriter.has_failed c.complain.new.errors)
     (g.E.ByteWriter.contents c.args.errors.now) (g.E.ByteWriter.contents c.complain.new.errors) text in (
       (
         c.in-Err-table_in_file.fault,
-        subst emitted c.text.ensures c.complain.ensures,
+        subst reported c.text.ensures c.complain.ensures,
         table_refused files (asked_of c.args.request.now).references (string_bytes c.in-Some.name)
             c.in-Err-table_in_file.fault (ap (λ references. option_map string_bytes references) c.in-Some.is)
             (λ e. subst (λ name. IfSome (files name) IsNoTable) c.as_str.ensures.value

@@ -32,7 +32,7 @@ returns-clause-refused g c = λ e.
     elim (refused_status c.carry_out-outcome.result (sym c.exit_status.ensures ∙ e)) [
       | inl page ↦ (
         page.0,
-        c.carry_out-outcome.ensures.emitted page.0 page.1,
+        c.carry_out-outcome.ensures.reported page.0 page.1,
         asked_refusal c.args.words request c.carry_out-outcome.result page.0 files _ _ _ _ _ read
             c.carry_out-outcome.ensures.outcomes page.1 (c.carry_out-outcome.ensures.reason page.0 page.1)
             (c.carry_out-outcome.ensures.unhelped page.0 page.1),

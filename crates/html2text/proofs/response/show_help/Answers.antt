@@ -4,8 +4,8 @@ use Rattle.html2text.specs.Responses.{Emits, complaint}
 use Rattle.page_config.specs.declared.error.Error.TheVariants.{IoError}
 use Rattle.html2text.proofs.response.show_help.Goals as goal
 
-pub returns-in-Err-clause-emitted : goal.returns-in-Err-clause-emitted
-returns-in-Err-clause-emitted g c =
+pub returns-in-Err-clause-reported : goal.returns-in-Err-clause-reported
+returns-in-Err-clause-reported g c =
     λ error e. let same : IoError ≡ error = cc in
     let emits =
     λ (text : _). Emits (g.E.ByteWriter.has_failed c.complain.new.errors)

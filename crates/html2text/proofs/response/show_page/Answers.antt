@@ -29,7 +29,7 @@ returns-in-None g c =
     (Complains (g.E.ByteWriter.has_failed errors) (g.E.ByteWriter.contents c.args.errors.now)
     (g.E.ByteWriter.contents errors)) (read.has_failed input) (wrote.has_failed output) (wrote.was_flushed output)
     (read.count c.args.input.now) (read.count input) c.in-Err.error c.refuse.result c.refuse.ensures.outcome
-    (ap (λ file. option_map string_bytes file) c.in-None.is) c.in-Err.ensures c.refuse.ensures.emitted
+    (ap (λ file. option_map string_bytes file) c.in-None.is) c.in-Err.ensures c.refuse.ensures.reported
 
 pub returns-in-Ok-write_page : goal.returns-in-Ok-write_page
 returns-in-Ok-write_page g c =
@@ -67,14 +67,14 @@ returns-in-Ok-open g c =
     (file.count c.in-Ok-open.file) (file.count c.write_page-in-Ok-open.new.input) c.in-Err-write_page.error
     c.refuse-in-Err-write_page.result c.refuse-in-Err-write_page.ensures.outcome
     (ap (λ file. option_map string_bytes file) c.in-Some.is) (c.in-Ok-open.ensures ∙ ap files c.as_str.ensures.value)
-    c.in-Err-write_page.ensures c.refuse-in-Err-write_page.ensures.emitted
+    c.in-Err-write_page.ensures c.refuse-in-Err-write_page.ensures.reported
 
 pub returns : goal.returns
 returns g c =
     let errors = c.complain.new.errors in
-    let emitted = λ (text : _). Complains (g.E.ByteWriter.has_failed errors) (g.E.ByteWriter.contents c.args.errors.now)
+    let reported = λ (text : _). Complains (g.E.ByteWriter.has_failed errors) (g.E.ByteWriter.contents c.args.errors.now)
     (g.E.ByteWriter.contents errors) text in (
-      subst emitted c.text.ensures c.complain.ensures,
+      subst reported c.text.ensures c.complain.ensures,
       refl,
       (string_bytes c.in-Some.name, ap (λ file. option_map string_bytes file) c.in-Some.is),
     )
