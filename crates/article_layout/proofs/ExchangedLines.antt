@@ -14,7 +14,8 @@ one_emitted false l rest lines e = e
 
 others_are : (n : ℕ) (lines : List Line) → others_emitted n (map emitted lines) ≡ map emitted (others n lines)
 others_are n [] = refl
-others_are n (l ∷ lines) = one_emitted (not (is_number n l.number)) l (others_emitted n (map emitted lines)) (others n lines)
+others_are n (l ∷ lines) = one_emitted (not (is_number n l.number)) l (others_emitted n (map emitted lines))
+    (others n lines)
     (others_are n lines)
 
 pub exchanged : (n : ℕ) (found : Option (List Line)) (shown : List Emitted) (ms : List Line) →

@@ -333,7 +333,8 @@ module _ (given : RenderOptions) (decorates : Bool) (min_wrap : ℕ) (held : Uni
       (then_walk (walk inside) (run_blocks o p.width ts kids) (here p ts) (here p trailing) begun
       (λ b. in_kids p ts b))
       ∙ ap (option_and_then (walk others))
-      (then_walk (laying_of.says plain_marking ends_line) (flush (w p) outermost) (here p trailing) (here p trailing) filled
+      (then_walk (laying_of.says plain_marking ends_line) (flush (w p) outermost) (here p trailing) (here p trailing)
+          filled
       (λ b. flushed given decorates min_wrap held p trailing b))
       ∙ rest_walked rest walked p ts (targets_of o kids) (λ b. b)
       (option_and_then (flush (w p) outermost) filled)

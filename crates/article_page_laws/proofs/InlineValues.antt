@@ -68,7 +68,8 @@ marked_held [] inside b e = ap holds_none (joined_none inside) ∙ e ∙ and_tru
 marked_held (c ∷ cs) inside b e = and_false b
 
 -- what shows nothing is the same by values and by inlines
-pub shows_nothing : (o : Options) (d : ℕ) (trailing : Bool) (is : Inlines) → fault_of_inlines d true trailing is ≡ None →
+pub shows_nothing : (o : Options) (d : ℕ) (trailing : Bool) (is : Inlines) → fault_of_inlines d true trailing is
+    ≡ None →
     all_empty (values_of_inlines o is) ≡ all_shallow o is
 shows_nothing o d trailing no_inlines h = refl
 shows_nothing o d trailing (words [] rest) h = cc

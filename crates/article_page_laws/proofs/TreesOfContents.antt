@@ -52,7 +52,8 @@ less_after s t k h = omega (arith, h)
 number_after : (n a b x s : ℕ) → x ≡ a + b → a ≡ suc n → b ≡ s → x ≡ suc n + s
 number_after n a b x s e h k = omega (arith, e, h, k)
 
-trees_of_listed : (content : Content) (k n : ℕ) (f front trailing : Forest) → f ≡ front ++ (listed n content ++ trailing) →
+trees_of_listed : (content : Content) (k n : ℕ) (f front trailing : Forest) → f
+    ≡ front ++ (listed n content ++ trailing) →
     length front ≡ n → size content ≤ k → each_before (tree_before k f) (roots n content) ≡ trees_of_content content
 trees_of_listed none k n f front trailing e before held = refl
 trees_of_listed (say c cs rest) zero n f front trailing e before held = absurd (omega (arith, held))

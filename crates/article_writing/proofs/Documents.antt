@@ -29,7 +29,8 @@ module _ {S : Type 0} (means : S → Call → Reply → S → Type 0) where
       ∷ calls_and (root_content title content) (finish (of_html (codes "html")) ∷ more)) is same e
       (one_emitted means s t (doctype_of (codes "html")) (λ more. more) a emitted))
 
-  pub document_emitted : {A B : Type 0} (s t u : S) (a : Result A SerializeFault) (value : A) (r : Result B SerializeFault)
+  pub document_emitted : {A B : Type 0} (s t u : S) (a : Result A SerializeFault) (value : A)
+      (r : Result B SerializeFault)
       (title : Option (List ℕ)) (content : Content) → a ≡ Ok value →
       means s (doctype_of (codes "html")) (reply_of a) t →
       Emits means t u r (λ more. start (of_html (codes "html")) []

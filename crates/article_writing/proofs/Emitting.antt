@@ -21,16 +21,19 @@ module _ {S : Type 0} (means : S → Call → Reply → S → Type 0) where
       (fault : SerializeFault) → r ≡ Err fault → fault ≡ Memory → Emits means s s r first others
   none_emitted s first others (Ok value) fault e f = cc
   none_emitted s first others (Err other) fault e f =
-      λ x. subst (λ o. IsEmitted means s (first x) (refused o) s) (sym (err_same refl e ∙ f)) (out_of_memory s (first x))
+      λ x. subst (λ o. IsEmitted means s (first x) (refused o) s) (sym (err_same refl e ∙ f))
+          (out_of_memory s (first x))
 
   -- one call
   pub one_emitted : {X A : Type 0} (s t : S) (call : Call) (others : X → List Call) (r : Result A SerializeFault) →
       means s call (reply_of r) t → Emits means s t r (λ x. call ∷ others x) others
-  one_emitted s t call others (Ok value) emitted = λ x reply end rest. further s t call (others x) reply end emitted rest
+  one_emitted s t call others (Ok value) emitted =
+      λ x reply end rest. further s t call (others x) reply end emitted rest
   one_emitted s t call others (Err fault) emitted = λ x. cut s t call (others x) fault emitted
 
   -- after what was emitted before
-  pub then_emitted : {X Y A B : Type 0} (s t u : S) (a : Result A SerializeFault) (value : A) (r : Result B SerializeFault)
+  pub then_emitted : {X Y A B : Type 0} (s t u : S) (a : Result A SerializeFault) (value : A)
+      (r : Result B SerializeFault)
       (first others : X → List Call) (rest : Y → List Call) (at : Y → X) → a ≡ Ok value →
       Emits means s t a first others → Emits means t u r (λ y. others (at y)) rest →
       Emits means s u r (λ y. first (at y)) rest

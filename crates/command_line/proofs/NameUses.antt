@@ -152,7 +152,8 @@ file_after_is bare = refl
 file_after_is dashes = refl
 file_after_is (named name) = refl
 
-pub files_all : (items : List Item) (ending : Ending) → files_in items ending ≡ values_at filed (items ++ trailing ending)
+pub files_all : (items : List Item) (ending : Ending) → files_in items ending
+    ≡ values_at filed (items ++ trailing ending)
 files_all items ending =
     ap (λ fs. flat_map file_in items ++ fs) (sym (file_after_is ending)) ∙ sym
     (flat_map-append file_in items (trailing ending)) ∙ files_are (items ++ trailing ending)

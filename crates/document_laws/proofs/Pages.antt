@@ -71,7 +71,8 @@ or_true : (x y : Bool) → y ≡ true → (x || y) ≡ true
 or_true true y e = refl
 or_true false y e = e
 
-by_mode_at : (mark : TreeToken) (s : State) (mode : InsertionMode) (p : ℕ) (rest : List ℕ) (f : Forest) (word : List ℕ) →
+by_mode_at : (mark : TreeToken) (s : State) (mode : InsertionMode) (p : ℕ) (rest : List ℕ) (f : Forest)
+    (word : List ℕ) →
     name_of p f ≡ of_html word → is_by_mode mark (page_at s mode (p ∷ rest) f) ≡ true
 unfolding page_at built
 by_mode_at mark s mode p rest f word e = or_true _ (takes mark (name_of p f) (is_integration_point p f))

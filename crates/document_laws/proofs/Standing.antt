@@ -123,7 +123,8 @@ pub if_false : {A : Type 0} (b : Bool) (x y : A) → b ≡ false → (if b then 
 if_false b x y e = rw e
 
 -- where the current node is of HTML, its mode's rules take each mark
-pub html_takes : (mark : TreeToken) (local : List ℕ) (p : Bool) → takes mark (record { ns = Html; local = local }) p ≡ true
+pub html_takes : (mark : TreeToken) (local : List ℕ) (p : Bool) → takes mark (record { ns = Html; local = local }) p
+    ≡ true
 html_takes (character c) local p = refl
 html_takes null local p = refl
 html_takes (comment cs) local p = refl
@@ -139,7 +140,8 @@ by_mode mark s ok p rest entries f word e =
     subst (λ name. takes mark name (is_integration_point p f) ≡ true) (sym e)
     (html_takes mark word (is_integration_point p f))
 
-pub rule_in_body : (mark : TreeToken) (s : State) (ok : Bool) (p : ℕ) (rest : List ℕ) (entries : List Entry) (f : Forest)
+pub rule_in_body : (mark : TreeToken) (s : State) (ok : Bool) (p : ℕ) (rest : List ℕ) (entries : List Entry)
+    (f : Forest)
     (word : List ℕ) → name_of p f ≡ of_html word →
     rule mark (now s ok (p ∷ rest) entries f) ≡ row InBody mark (now s ok (p ∷ rest) entries f)
 unfolding now

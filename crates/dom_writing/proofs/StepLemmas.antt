@@ -32,7 +32,8 @@ pub one_step : {S : Type 0} (means : S → Call → Reply → S → Type 0) (f :
     (calls : List Call) (turns : List Turn) → calls ≡ call ∷ pending f turns → AreReady f turns → means s call done t
     → IsStep means f s calls t turns
 one_step means f s t call calls turns e ready m = record {
-  emitted = λ reply u h. subst (λ l. IsEmitted means s l reply u) (sym e) (further s t call (pending f turns) reply u m h);
+  emitted = λ reply u h. subst (λ l. IsEmitted means s l reply u) (sym e)
+      (further s t call (pending f turns) reply u m h);
   ready = ready;
   falls = subst (λ l. length (pending f turns) < length l) (sym e) (shorter call (pending f turns));
 }
@@ -94,7 +95,8 @@ element_ready f node ns turns forest is e ready =
 -- a walk that goes on: what emits the calls that are left emits all
 pub record IsGoing {S : Type 0} (means : S → Call → Reply → S → Type 0) (f : Forest) (first : S) (calls : List Call)
     (now : S) (turns : List Turn) : Type 0 where
-  pub emitted : (reply : Reply) (u : S) → IsEmitted means now (pending f turns) reply u → IsEmitted means first calls reply u
+  pub emitted : (reply : Reply) (u : S) → IsEmitted means now (pending f turns) reply u →
+      IsEmitted means first calls reply u
   pub ready : AreReady f turns
 
 pub going_first : {S : Type 0} (means : S → Call → Reply → S → Type 0) (f : Forest) (s : S) (turns : List Turn)

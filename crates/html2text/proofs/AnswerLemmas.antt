@@ -35,7 +35,8 @@ module _ (asked : Asked) (files : Files) (names : References) (table : IsTableOf
 
   pub page_shown : (read_failed write_failed flushed : Bool) (before after : ℕ) (rf : Bool) (b a : ℕ)
       → Ends (page_bytes files input asked.file) rf write_failed flushed b a (Ok tt) → Silent
-      → IsAnswered asked files input read_failed write_failed flushed before after old new Unread Untouched Silent Reported
+      → IsAnswered asked files input read_failed write_failed flushed before after old new Unread Untouched Silent
+          Reported
       outcomes.Done
   page_shown read_failed wf fl before after rf b a ends silent =
       (record { names = names; table = table; written = ends.0 }, ends.1, ends.2, silent)
@@ -44,7 +45,8 @@ module _ (asked : Asked) (files : Files) (names : References) (table : IsTableOf
       (outcome : Outcome) → outcome ≡ outcomes.Page error
       → IsSourceRefusal asked names files asked.file input (read_failed || write_failed) before after error
       → Ends (page_bytes files input asked.file) rf write_failed flushed b a (Err error) → Reported (error_text error)
-      → IsAnswered asked files input read_failed write_failed flushed before after old new Unread Untouched Silent Reported
+      → IsAnswered asked files input read_failed write_failed flushed before after old new Unread Untouched Silent
+          Reported
       outcome
   page_refused read_failed wf fl before after rf b a error outcome is reason ends reported =
       subst (IsAnswered asked files input read_failed wf fl before after old new Unread Untouched Silent Reported)
@@ -68,7 +70,8 @@ module _ (asked : Asked) (files : Files) (names : References) (table : IsTableOf
   pub refused_here : (rf write_failed flushed : Bool) (before after : ℕ) (error : Error) (outcome : Outcome)
       → outcome ≡ outcomes.Page error → asked.file ≡ None
       → Ends input rf write_failed flushed before after (Err error) → Reported (error_text error)
-      → IsAnswered asked files input rf write_failed flushed before after old new Unread Untouched Silent Reported outcome
+      → IsAnswered asked files input rf write_failed flushed before after old new Unread Untouched Silent Reported
+          outcome
   refused_here rf wf fl before after error outcome is here ends reported =
       page_refused rf wf fl before after rf before after error outcome is
       (subst (λ file. IsSourceRefusal asked names files file input (rf || wf) before after error) (sym here) ends.0)
@@ -78,7 +81,8 @@ module _ (asked : Asked) (files : Files) (names : References) (table : IsTableOf
   pub shown_there : (read_failed write_failed flushed : Bool) (before after : ℕ) (name : List ℕ) (bytes : Bytes)
       (rf : Bool) (b a : ℕ) → asked.file ≡ Some name → bytes ≡ files name
       → Ends bytes rf write_failed flushed b a (Ok tt) → Silent
-      → IsAnswered asked files input read_failed write_failed flushed before after old new Unread Untouched Silent Reported
+      → IsAnswered asked files input read_failed write_failed flushed before after old new Unread Untouched Silent
+          Reported
       outcomes.Done
   shown_there read_failed wf fl before after name bytes rf b a there known ends silent =
       page_shown read_failed wf fl before after rf b a
@@ -89,7 +93,8 @@ module _ (asked : Asked) (files : Files) (names : References) (table : IsTableOf
       (rf : Bool) (b a : ℕ) (error : Error) (outcome : Outcome) → outcome ≡ outcomes.Page error
       → asked.file ≡ Some name → bytes ≡ files name
       → Ends bytes rf write_failed flushed b a (Err error) → Reported (error_text error)
-      → IsAnswered asked files input read_failed write_failed flushed before after old new Unread Untouched Silent Reported
+      → IsAnswered asked files input read_failed write_failed flushed before after old new Unread Untouched Silent
+          Reported
       outcome
   refused_there read_failed wf fl before after name bytes rf b a error outcome is there known ends reported =
       let named : Ends (files name) rf wf fl b a (Err error) =
@@ -111,7 +116,8 @@ pub no_basic : (asked : Asked) (files : Files) (input : Bytes) (rf wf fl : Bool)
     (old new : Bytes) (Unread Untouched Silent : Type 0) (Reported : List ℕ → Type 0) (outcome : Outcome)
     → outcome ≡ outcomes.Page errors.Memory → asked.references ≡ None → Reported (error_text errors.Memory) → Untouched
     → IsAnswered asked files input rf wf fl before after old new Unread Untouched Silent Reported outcome
-no_basic asked files input rf wf fl before after old new Unread Untouched Silent Reported outcome is none reported same =
+no_basic asked files input rf wf fl before after old new Unread Untouched Silent Reported outcome is none reported
+    same =
     subst (IsAnswered asked files input rf wf fl before after old new Unread Untouched Silent Reported) (sym is) (
       reported,
       record {

@@ -65,7 +65,8 @@ parts_from declares = record {
 abbrev styles_from : (List ℕ → StylePlace → List (Declared Style)) → Styles
 styles_from declares name = parts_from (declares name)
 
-by_seen : (rules : List StyleRule) → styles_of rules ≡ styles_from (λ name place. seen_at name place (map seen_rule rules))
+by_seen : (rules : List StyleRule) → styles_of rules
+    ≡ styles_from (λ name place. seen_at name place (map seen_rule rules))
 by_seen rules = ap styles_from (fun_ext (λ name. fun_ext (λ place. same_seen name place rules)))
 
 styles_alike : (rules other : List StyleRule) → map seen_rule rules ≡ map seen_rule other

@@ -37,7 +37,8 @@ use Rattle.layout_laws.proofs.BareSteps.{styled_alike, to_alike, turn}
 
 -- ---- a table
 
-fence_alike : {H A : Type 0} {m : Marking H A} (laws : BareLaws m) (asked : Bool) → Alike (fence m asked) (fence m asked)
+fence_alike : {H A : Type 0} {m : Marking H A} (laws : BareLaws m) (asked : Bool) →
+    Alike (fence m asked) (fence m asked)
 fence_alike {m = m} laws asked =
     let fenced = in_turn (says m (calls.adds_text (codes "```"))) (says m calls.ends_line) in
     either asked fenced fenced Some Some

@@ -233,7 +233,8 @@ pub styled_goes : {H A : Type 0} {m : Marking H A} (laws : RoomLaws m) (s : Rend
 styled_goes {m = m} laws s inside goes =
     goes_through _ _ (look_begins laws s) (goes_through _ _ goes (look_ends laws s))
 
-pub placed_goes : {H A : Type 0} {m : Marking H A} (laws : RoomLaws m) (a : Around) (inside : Step H A) (x : LayoutState H A)
+pub placed_goes : {H A : Type 0} {m : Marking H A} (laws : RoomLaws m) (a : Around) (inside : Step H A)
+    (x : LayoutState H A)
     → Goes inside → Roomy x → IsSomeAnd (placed m a inside x) Roomy
 placed_goes laws Flow inside x goes room = goes x room
 placed_goes {m = m} laws (Items mark columns least) inside x goes room = given_chained Roomy Roomy _ _

@@ -128,7 +128,8 @@ Keeps {H} {A} from to f = (in_cell : Bool) → Steps (At in_cell from) (At in_ce
 
 pub stays_on : {H A : Type 0} (p q r : Parts H A) → PartsStayWithin p q → PartsStayWithin q r → PartsStayWithin p r
 stays_on p q r before trailing = record {
-  current = (trailing.current.0, (trailing.current.1.0 ∙ before.current.1.0, trailing.current.1.1 ∙ before.current.1.1));
+  current = (trailing.current.0, (trailing.current.1.0 ∙ before.current.1.0, trailing.current.1.1
+      ∙ before.current.1.1));
   below = trailing.below ∙ before.below;
   kept = trailing.kept;
 }
@@ -144,7 +145,8 @@ pub weaker : {X : Type 0} (P Q : X → Type 0) (o : Option X) → ((x : X) → P
 weaker P Q None h given = tt
 weaker P Q (Some x) h given = h x given
 
-pub onward : {H A : Type 0} (Q R : LayoutState H A → Type 0) (g : Step H A) (x : LayoutState H A) (o : Option (LayoutState H A))
+pub onward : {H A : Type 0} (Q R : LayoutState H A → Type 0) (g : Step H A) (x : LayoutState H A)
+    (o : Option (LayoutState H A))
     → AreSound x.parts → Steps Q R g → IfSome o (Kept Q x) → IfSome (option_and_then g o) (Kept R x)
 onward Q R g x o sound does given = chained (Kept Q x) (Kept R x) g o
     (λ y k. weaker (Kept R y) (Kept R x) (g y) (λ z j. (stays_on x.parts y.parts z.parts k.0 j.0, j.1))
@@ -184,7 +186,8 @@ current_stays p s kept inside =
     record { current = inside; below = refl; kept = record { current = inside.0; below = kept.below } }
 
 -- a call that fits where it is made
-pub says_there : {H A : Type 0} {m : Marking H A} (laws : WidthLaws m) (Q : LayoutState H A → Type 0) (c : Call (Sub H A))
+pub says_there : {H A : Type 0} {m : Marking H A} (laws : WidthLaws m) (Q : LayoutState H A → Type 0)
+    (c : Call (Sub H A))
     (x : LayoutState H A) → AreSound x.parts → CallFits c x.parts.current
     → ((s : Sub H A) → StaysWithin x.parts.current s → step m c x.parts.current ≡ Some s → Q (in_current x s))
     → IfSome (says m c x) (Kept Q x)

@@ -28,7 +28,8 @@ use Rattle.table_widths.specs.declared.slot.Slot.{Slot}
 -- ---- fragments
 
 pub started_more : {H A : Type 0} (m : Marking H A) (names : List (List ℕ)) (at : ℕ) (name cs : List ℕ)
-    (old new : LayoutState H A) (whole : Option (LayoutState H A)) → at < length names → name ≡ get_or names at name → cs ≡ name
+    (old new : LayoutState H A) (whole : Option (LayoutState H A)) → at < length names → name ≡ get_or names at name →
+        cs ≡ name
     → says m (starts_fragment cs) old ≡ Some new → whole ≡ start_all m (drop at names) old
     → whole ≡ start_all m (drop (at + 1) names) new
 started_more m names at name cs old new whole l is as_it h so_far =
@@ -37,7 +38,8 @@ started_more m names at name cs old new whole l is as_it h so_far =
     (ap (λ (v : List ℕ). says m (starts_fragment v) old) (sym is ∙ sym as_it) ∙ h) refl)
 
 pub not_started : {H A : Type 0} (m : Marking H A) (names : List (List ℕ)) (at : ℕ) (name cs : List ℕ)
-    (old : LayoutState H A) (whole : Option (LayoutState H A)) → at < length names → name ≡ get_or names at name → cs ≡ name
+    (old : LayoutState H A) (whole : Option (LayoutState H A)) → at < length names → name ≡ get_or names at name → cs
+        ≡ name
     → says m (starts_fragment cs) old ≡ None → whole ≡ start_all m (drop at names) old → whole ≡ None
 not_started m names at name cs old whole l is as_it h so_far =
     so_far ∙ (ap (λ v. start_all m v old) (drop_more names at name l)
@@ -54,7 +56,8 @@ fence_text : chars (codes "```") ≡ codes "```"
 unfolding chars
 fence_text = refl
 
-pub fence_on : {H A : Type 0} (m : Marking H A) (fenced : Bool) (old mid : LayoutState H A) (o : Option (LayoutState H A))
+pub fence_on : {H A : Type 0} (m : Marking H A) (fenced : Bool) (old mid : LayoutState H A)
+    (o : Option (LayoutState H A))
     → fenced ≡ true → says m (adds_text (chars (codes "```"))) old ≡ Some mid → says m ends_line mid ≡ o
     → fence m fenced old ≡ o
 fence_on m fenced old mid o asked h k =
@@ -77,7 +80,8 @@ border_below m options widths l o drawn none h =
     ∙ (ap (λ v. says m (border_call v) l) none ∙ h)
 
 pub border_across : {H A : Type 0} (m : Marking H A) (options : RenderOptions) (widths : Option (List ℕ))
-    (ws : List ℕ) (n : ℕ) (l : LayoutState H A) (o : Option (LayoutState H A)) → options.draw_borders ≡ true → widths ≡ Some ws
+    (ws : List ℕ) (n : ℕ) (l : LayoutState H A) (o : Option (LayoutState H A)) → options.draw_borders ≡ true → widths
+        ≡ Some ws
     → n ≡ separated ws → says m (adds_border_of n) l ≡ o → top_border m options widths l ≡ o
 border_across m options widths ws n l o drawn some wide h =
     ap (λ b. (if b then says m (border_call widths) else Some) l) drawn
@@ -109,7 +113,8 @@ turn_keeps {H} {A} f g l new first next h = keeps (f l) refl h
     keeps None e k = never_some new k
     keeps (Some x) e k = next x k ∙ first x e
 
-pub fence_keeps : {H A : Type 0} (m : Marking H A) (fenced : Bool) (l new : LayoutState H A) → fence m fenced l ≡ Some new
+pub fence_keeps : {H A : Type 0} (m : Marking H A) (fenced : Bool) (l new : LayoutState H A) → fence m fenced l
+    ≡ Some new
     → new.table ≡ l.table
 fence_keeps {H} {A} m false l new h = ap (λ (x : LayoutState H A). x.table) (sym (some_same l new h))
 fence_keeps m true l new h =
@@ -202,7 +207,8 @@ pub cell_begins : {H A : Type 0} (m : Marking H A) (width : ℕ) (names : List (
     → start_all m names (in_table (outside true) mid) ≡ o → cell_begun m width names old ≡ o
 unfolding cell_begun in_cell
 cell_begins {H} {A} m width names old mid o h k =
-    ap (λ (l : LayoutState H A). start_all m names (in_table (outside true) l)) (some_same (in_part m width old) mid h) ∙ k
+    ap (λ (l : LayoutState H A). start_all m names (in_table (outside true) l)) (some_same (in_part m width old) mid h)
+        ∙ k
 
 abbrev laying_at : {H A : Type 0} → Around → TablePlace H A → Parts H A → LayoutState H A
 laying_at around place p = record { parts = p; around = around; table = place }
@@ -252,7 +258,8 @@ never_fenced {H} {A} m options fenced widths slots l one h k =
     (turn_off (fence m fenced) (in_turn (top_border m options widths) goes) one k)
 
 pub never_bordered : {H A : Type 0} (m : Marking H A) (options : RenderOptions) (fenced : Bool)
-    (widths : Option (List ℕ)) (slots : List (List Slot)) (l one two : LayoutState H A) → says m starts_table l ≡ Some one
+    (widths : Option (List ℕ)) (slots : List (List Slot)) (l one two : LayoutState H A) → says m starts_table l
+        ≡ Some one
     → fence m fenced one ≡ Some two → top_border m options widths two ≡ None
     → table_begun m options fenced widths slots l ≡ None
 never_bordered {H} {A} m options fenced widths slots l one two h k b =

@@ -32,7 +32,8 @@ pub box_waits : {X H A : Type 0} (m : Marking H A) (w : Measure) (f : X → Cont
 box_waits m w f boxed x whole o is h = h ∙ ap (λ y. option_and_then (unwound m w (f y ∷ [])) o) (sym is)
 
 -- what waited in a box is done
-pub unboxed : {X H A : Type 0} (m : Marking H A) (w : Measure) (f : X → Continuation H A) (boxed x : X) (l : LayoutState H A)
+pub unboxed : {X H A : Type 0} (m : Marking H A) (w : Measure) (f : X → Continuation H A) (boxed x : X)
+    (l : LayoutState H A)
     (o : Option (LayoutState H A)) → x ≡ boxed → undone m w (f x) l ≡ o → undone m w (f boxed) l ≡ o
 unboxed m w f boxed x l o is h = ap (λ y. undone m w (f y) l) (sym is) ∙ h
 
@@ -132,7 +133,8 @@ no_item_opens {H} {A} m mark columns least inside old mid same h =
 
 -- what stands in a value that is no part stands where it is
 pub held_alone : {H A : Type 0} (m : Marking H A) (w : Measure) (info : RenderInfo) (c : Content)
-    (inside : Step H A) (l : LayoutState H A) → ((level : ℕ) → info ≡ infos.Heading level → ⊥) → (info ≡ infos.Quote → ⊥)
+    (inside : Step H A) (l : LayoutState H A) → ((level : ℕ) → info ≡ infos.Heading level → ⊥) →
+        (info ≡ infos.Quote → ⊥)
     → (info ≡ infos.Bullets → ⊥) → ((first : ℤ) → info ≡ infos.Numbers first → ⊥) → (info ≡ infos.Details → ⊥)
     → (info ≡ infos.Table → ⊥) → holds m info c inside l ≡ option_and_then (unwound m w []) (inside l)
 unfolding holds

@@ -33,7 +33,8 @@ unwound_on m w [] ys l = sym (then_some (unwound m w ys l))
 unwound_on m w (x ∷ xs) ys l = ap (option_and_then (undone m w x)) (unwound_on m w xs ys l)
     ∙ sym (then_then (unwound m w xs) (undone m w x) (unwound m w ys l))
 
-pub all_wait : {H A : Type 0} (m : Marking H A) (w : Measure) (xs ys : List (Continuation H A)) (o : Option (LayoutState H A))
+pub all_wait : {H A : Type 0} (m : Marking H A) (w : Measure) (xs ys : List (Continuation H A))
+    (o : Option (LayoutState H A))
     → option_and_then (unwound m w xs) (option_and_then (unwound m w ys) o)
     ≡ option_and_then (unwound m w (xs ++ ys)) o
 all_wait m w xs ys o = sym (then_then (unwound m w ys) (unwound m w xs) o)

@@ -74,7 +74,8 @@ pub row_left_out : {H A : Type 0} (m : Marking H A) (w : Measure) (shown : Bool)
 row_left_out m w shown inside new whole is h =
     h ∙ (ap (λ b. where_entered b inside new) is ∙ nothing_waits m w (Some new))
 
-pub row_let_in : {H A : Type 0} (shown : Bool) (inside : Step H A) (new : LayoutState H A) (whole : Option (LayoutState H A))
+pub row_let_in : {H A : Type 0} (shown : Bool) (inside : Step H A) (new : LayoutState H A)
+    (whole : Option (LayoutState H A))
     → shown ≡ true → whole ≡ where_entered shown inside new → whole ≡ inside new
 row_let_in shown inside new whole is h = h ∙ ap (λ b. where_entered b inside new) is
 
@@ -153,7 +154,8 @@ cell_waits m w inside outer here widths more left made taken new same =
 -- A cell is laid out alike wherever values stood before.
 any_place : {H A : Type 0} (m : Marking H A) (widths : Option (List ℕ)) (more : List (List Slot))
     (fragments : List (List ℕ)) (slots : List Slot) (made : List (Sub H A × ℕ)) (inside : Step H A)
-    (l : LayoutState H A) (place : TablePlace H A) → in_slot m widths more fragments slots made inside (in_table place l)
+    (l : LayoutState H A) (place : TablePlace H A) →
+        in_slot m widths more fragments slots made inside (in_table place l)
     ≡ in_slot m widths more fragments slots made inside l
 unfolding cell_begun in_cell in_part
 any_place m widths more fragments [] made inside l place = refl
@@ -161,7 +163,8 @@ any_place m widths more fragments (s ∷ slots) made inside l place = refl
 
 pub cell_at_any : {H A : Type 0} (m : Marking H A) (widths : Option (List ℕ)) (more : List (List Slot))
     (fragments : List (List ℕ)) (slots : List Slot) (made : List (Sub H A × ℕ)) (inside : Step H A)
-    (l : LayoutState H A) (place : TablePlace H A) → cell_laid m widths more fragments slots made inside (in_table place l)
+    (l : LayoutState H A) (place : TablePlace H A) →
+        cell_laid m widths more fragments slots made inside (in_table place l)
     ≡ cell_laid m widths more fragments slots made inside l
 unfolding cell_laid
 cell_at_any m widths more fragments slots made inside l place = any_place m widths more fragments (from_cell slots)
@@ -193,7 +196,8 @@ cell_opens f m w g style fragment inside xs ys old one two new cell look h =
     ∙ (ap (λ v. option_and_then (unwound m w v) (in_turn (named m fragment) inside two)) (sym (map-append f xs ys))
     ∙ ap (option_and_then (unwound m w (map f (xs ++ ys)))) (turn_on (named m fragment) inside two new _ h refl))
 
-pub no_cell_look : {H A : Type 0} (m : Marking H A) (w : Measure) (g : Step H A → Step H A) (xs : List (Continuation H A))
+pub no_cell_look : {H A : Type 0} (m : Marking H A) (w : Measure) (g : Step H A → Step H A)
+    (xs : List (Continuation H A))
     (inside : Step H A) (old one : LayoutState H A)
     → ((x : Step H A) → g x old ≡ option_and_then (unwound m w xs) (x one)) → inside one ≡ None
     → g inside old ≡ None
@@ -272,7 +276,8 @@ nothing_among_cells m w infos.TableGroup head place inside l a = nothing_waits m
 nothing_among_cells m w infos.TableRow head place inside l a = nothing_waits m w (Some l)
 nothing_among_cells m w (infos.TableCell columns taken) head place inside l a = absurd (a columns taken refl)
 
-pub laid_at_place : {H A : Type 0} (m : Marking H A) (head : Head) (c : Content) (inside : Step H A) (l : LayoutState H A)
+pub laid_at_place : {H A : Type 0} (m : Marking H A) (head : Head) (c : Content) (inside : Step H A)
+    (l : LayoutState H A)
     (place : TablePlace H A) → l.table ≡ place
     → laid m head c inside l ≡ laid_at m head c place inside (in_table place l)
 laid_at_place m head c inside l place is = ap (λ p. laid_at m head c p inside (in_table p l)) is

@@ -25,7 +25,8 @@ use Rattle.layout_walk.proofs.SegmentLemmas.{none_sound, nothing_here}
 use Rattle.layout_values.proofs.ValueLemmas.{all_on}
 use Rattle.layout_walk.proofs.WalkLemmas.{enters}
 
-pub entered : {X H A : Type 0} (f : X → Continuation H A) (m : Marking H A) (w : Measure) (old one rests items new : List X)
+pub entered : {X H A : Type 0} (f : X → Continuation H A) (m : Marking H A) (w : Measure)
+    (old one rests items new : List X)
     (head : Head) (inner later vs next : Values) (c : Content) (is_entered : Bool) (before trailing : LayoutState H A)
     → one ≡ old ++ rests → new ≡ one ++ items
     → ((l : LayoutState H A) → unwound m w (map f rests) l ≡ lay m w later l) → vs ≡ value head inner later

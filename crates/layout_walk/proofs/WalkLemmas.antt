@@ -65,7 +65,8 @@ laid_alike_at m head c d (outside in_cell) inside l h =
 laid_alike_at m head c d (rows widths slots fragments) inside l h = refl
 laid_alike_at m head c d (cells widths more fragments slots made) inside l h = refl
 
-pub laid_alike : {H A : Type 0} (m : Marking H A) (head : Head) (c d : Content) (inside : Step H A) (l : LayoutState H A)
+pub laid_alike : {H A : Type 0} (m : Marking H A) (head : Head) (c d : Content) (inside : Step H A)
+    (l : LayoutState H A)
     → AreAlike head.info c d → laid m head c inside l ≡ laid m head d inside l
 laid_alike m head c d inside l h = laid_alike_at m head c d l.table inside l h
 
@@ -84,7 +85,8 @@ enters m w before trailing pushed head inner later vs c old o waits is known ope
     ∙ ap (option_and_then (unwound m w before))
     (sym (all_wait m w trailing pushed o)
     ∙ (then_same (unwound m w trailing) (lay m w later) (option_and_then (unwound m w pushed) o) waits
-    ∙ (ap (option_and_then (lay m w later)) (sym opens ∙ laid_alike m head c (content_of w head inner) (lay m w inner) old known)
+    ∙ (ap (option_and_then (lay m w later)) (sym opens
+    ∙ laid_alike m head c (content_of w head inner) (lay m w inner) old known)
     ∙ ap (λ v. lay m w v old) (sym is))))
 
 pub never_enters : {H A : Type 0} (m : Marking H A) (w : Measure) (before : List (Continuation H A)) (head : Head)
@@ -97,7 +99,8 @@ never_enters m w before head inner later vs c old is known never =
     (sym (laid_alike m head c (content_of w head inner) (lay m w inner) old known) ∙ never (lay m w inner))
 
 -- what waited last is next
-pub leaves : {H A : Type 0} (m : Marking H A) (w : Measure) (items kept : List (Continuation H A)) (x : Continuation H A)
+pub leaves : {H A : Type 0} (m : Marking H A) (w : Measure) (items kept : List (Continuation H A))
+    (x : Continuation H A)
     (vs next : Values) (old new : LayoutState H A) → items ≡ kept ++ x ∷ [] → vs ≡ none
     → lay m w next new ≡ undone m w x old
     → option_and_then (unwound m w kept) (lay m w next new) ≡ option_and_then (unwound m w items) (lay m w vs old)
@@ -108,7 +111,8 @@ leaves m w items kept x vs next old new is over goes =
     ∙ (ap (λ xs. unwound m w xs old) (sym is) ∙ ap (λ v. option_and_then (unwound m w items) (lay m w v old)) (sym
     over)))
 
-pub never_leaves : {H A : Type 0} (m : Marking H A) (w : Measure) (items kept : List (Continuation H A)) (x : Continuation H A)
+pub never_leaves : {H A : Type 0} (m : Marking H A) (w : Measure) (items kept : List (Continuation H A))
+    (x : Continuation H A)
     (vs : Values) (old : LayoutState H A) → items ≡ kept ++ x ∷ [] → vs ≡ none → undone m w x old ≡ None
     → option_and_then (unwound m w items) (lay m w vs old) ≡ None
 unfolding unwound

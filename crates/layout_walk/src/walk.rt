@@ -340,7 +340,8 @@ pub fn lay_tree<D: TextDecorator + Drop>(
     requires sized { AreMeasured w tree.now sizes.now }
     ensures laid { IfOk result (λ trailing. PartsCome D.Annotation.seen D.view (λ m p. laid_parts m w tree.now p) text
         trailing) }
-    ensures works { IfOk result (λ trailing. (page_has_failed trailing ≡ false) × (current_has_failed trailing ≡ false)) }
+    ensures works { IfOk result (λ trailing. (page_has_failed trailing ≡ false) ×
+        (current_has_failed trailing ≡ false)) }
     ensures whole { IfOk result (λ trailing. depth_of (parts_of D.Annotation.seen D.view.held trailing) ≡ 1) }
     ensures narrow { result ≡ Err errors.TooNarrow → PartsFail D.Annotation.seen D.view
         (λ m p. laid_parts m w tree.now p) text }

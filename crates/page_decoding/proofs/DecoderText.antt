@@ -147,7 +147,8 @@ decoded-more bs more n none fault =
 pub replaced_text-fault : (bs more : List ℕ) (n : ℕ) → (decoded bs).char ≡ None → utf8_error_len bs ≡ Some n
     → replaced_text (bs ++ more) ≡ replacement ∷ replaced_text (drop n bs ++ more)
 replaced_text-fault bs more n none fault =
-    let some : 0 < length bs = ⊎_elim (λ (p : 0 < length bs). p) (λ (z : length bs ≤ 0). let e = ends_empty bs (omega arith) in absurd cc) (cases_lt 0 (length bs)) in
+    let some : 0 < length bs = ⊎_elim (λ (p : 0 < length bs). p)
+        (λ (z : length bs ≤ 0). let e = ends_empty bs (omega arith) in absurd cc) (cases_lt 0 (length bs)) in
     let same = decoded-more bs more n none fault in
     let size : n ≡ (decoded bs).size =
     sym (ap (λ o. unwrap_or o (length bs)) fault) ∙ utf8_invalid_len-decoded bs none in

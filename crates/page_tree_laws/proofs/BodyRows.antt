@@ -182,7 +182,8 @@ module _ (is_framed : Bool) (root head body : ℕ) (apart : AreApart root head b
   body_mark keep (character c) s emitted held off ready formed = fits (row modes.InBody (character c) s) s
       (in_body_row (body_guard root head body) own_rows own_top (character c) s (can s held) tt tt) held off
   body_mark keep null s emitted held off ready formed = fits (row modes.InBody null s) s tt held off
-  body_mark keep (comment cs) s emitted held off ready formed = fits (row modes.InBody (comment cs) s) s (tt, tt) held off
+  body_mark keep (comment cs) s emitted held off ready formed =
+      fits (row modes.InBody (comment cs) s) s (tt, tt) held off
   body_mark keep (doctype d) s emitted held off ready formed = fits (row modes.InBody (doctype d) s) s tt held off
   body_mark keep (finish t) s emitted held off ready formed = fits (row modes.InBody (finish t) s) s
       (body_end_fits (body_guard root head body) own_rows own_top (tag_group t.name) t s refl (can s held)
@@ -194,7 +195,8 @@ module _ (is_framed : Bool) (root head body : ℕ) (apart : AreApart root head b
   body_mode : ActionsKeep → (m : InsertionMode) (mark : TreeToken) (s : State) → is_of_body m ≡ true →
       IsEmittedMark is_framed mark → IsHeld (body_guard root head body) s → is_text s.mode ≡ false → Ready s →
       IsFormed s → ComesTo (IsBuilt is_framed) s (row m mark s)
-  body_mode keep modes.InBody mark s is emitted held off ready formed = body_mark keep mark s emitted held off ready formed
+  body_mode keep modes.InBody mark s is emitted held off ready formed =
+      body_mark keep mark s emitted held off ready formed
   body_mode keep modes.AfterBody mark s is emitted held off ready formed = fits (row modes.AfterBody mark s) s
       (after_body_row (body_guard root head body) mark s (can s held) refl) held off
   body_mode keep modes.AfterAfterBody mark s is emitted held off ready formed = fits (row modes.AfterAfterBody mark s) s

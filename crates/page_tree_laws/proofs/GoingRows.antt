@@ -156,7 +156,8 @@ module _ (root head body : ℕ) (apart : AreApart root head body) where
     by group = tt
   closes_mark end_of_file s held = going_closes s held
 
-  going_row : (m : InsertionMode) (mark : TreeToken) (s : State) → s.mode ≡ m → may_stand m ≡ true → is_text s.mode ≡ false →
+  going_row : (m : InsertionMode) (mark : TreeToken) (s : State) → s.mode ≡ m → may_stand m ≡ true → is_text s.mode
+      ≡ false →
       IsHeld (going root head body) s → s.frameset_ok ≡ false →
       FitsRow (going root head body) s (row m mark s)
   going_row modes.AfterHead mark s at is off held refused = after_head_row (going root head body)

@@ -78,7 +78,8 @@ none_below x h = omega (arith, h)
 -- what a row gives, where what is taken again keeps text
 given_keeps : ActionsKeep → (mark : TreeToken) (s : State) (r : Row) (further : State → Settled) → Ready s →
     Falls mark s r → Gives (emitted_by mark) s r →
-    ((s' : State) → Ready s' → IsPlain s' → rank mark s' < rank mark s → Keeps (emitted_by mark) s' (further s').state) →
+    ((s' : State) → Ready s' → IsPlain s' → rank mark s' < rank mark s →
+        Keeps (emitted_by mark) s' (further s').state) →
     Keeps (emitted_by mark) s (given_by r s further).state
 given_keeps keep mark s (done actions) further ready falls gives more =
     record { ready = all_ready keep actions s ready; comes = gives }
@@ -288,7 +289,8 @@ amount_begins c s none = no_waiting (in_texts c s.tree.forest) (how_often c s.pe
   no_waiting : (x p : ℕ) → p ≡ 0 → x + p ≡ x
   no_waiting x p e = omega (arith, e)
 
-pub text_kept : Facts → (s : State) (emitted : List Item) → IsAtBeginning s → EmitsPlainTags emitted → KeepsText s emitted
+pub text_kept : Facts → (s : State) (emitted : List Item) → IsAtBeginning s → EmitsPlainTags emitted →
+    KeepsText s emitted
 text_kept facts s emitted begins are c is =
     let all = items_keep facts emitted s are begins.ready (beginning_plain s begins) in
     all.grows c is ∙ ap (λ k. k + in_emitted c emitted) (amount_begins c s begins.pending)

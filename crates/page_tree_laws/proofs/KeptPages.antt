@@ -69,7 +69,8 @@ given_ends facts s (again actions) further ready falls gives is more =
 
 in_both : (c : ℕ) (xs ys : List Item) → in_emitted c (xs ++ ys) ≡ in_emitted c xs + in_emitted c ys
 in_both c [] ys = omega arith
-in_both c (x ∷ xs) ys = more_emitted (how_often c (text_emitted x)) (in_emitted c xs) (in_emitted c ys) (in_emitted c (xs ++ ys))
+in_both c (x ∷ xs) ys = more_emitted (how_often c (text_emitted x)) (in_emitted c xs) (in_emitted c ys)
+    (in_emitted c (xs ++ ys))
     (in_both c xs ys) where
       more_emitted : (h n m k : ℕ) → k ≡ n + m → h + k ≡ (h + n) + m
       more_emitted h n m k e = omega (arith, e)
@@ -117,7 +118,8 @@ module _ (facts : Facts) where
   read_after : (xs ys : List Item) (s final : State) → KeepsAll facts xs s (fold step s xs) →
       IsRead ys (fold step s xs) final → IsRead (xs ++ ys) s final
   read_after xs ys s final first rest = record {
-    grows = λ c is. both_grow (amount c s) (amount c (fold step s xs)) (amount c final) (in_emitted c xs) (in_emitted c ys)
+    grows = λ c is. both_grow (amount c s) (amount c (fold step s xs)) (amount c final) (in_emitted c xs)
+        (in_emitted c ys)
         (in_emitted c (xs ++ ys)) (first.grows c is) (rest.grows c is) (in_both c xs ys);
     none = rest.none;
   }

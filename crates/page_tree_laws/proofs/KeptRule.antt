@@ -54,7 +54,8 @@ start_gives modes.InTable g t s is plain named usual = table_start g t s plain n
 start_gives mode g t s is plain named usual =
     mild_gives (start_row mode g t s) (start_mild mode g t s is plain tt) s usual
 
-usual_row : (mark : TreeToken) (mode : InsertionMode) (s : State) → is_usual mode ≡ true → IsPlainMark mark → IsUsual s →
+usual_row : (mark : TreeToken) (mode : InsertionMode) (s : State) → is_usual mode ≡ true → IsPlainMark mark →
+    IsUsual s →
     Gives (emitted_by mark) s (row mode mark s)
 usual_row (character d) mode s is plain usual =
     of_character d s (text_row mode (is_white_space d) s) (usual_text mode (is_white_space d) s is usual) usual
@@ -69,7 +70,8 @@ usual_row (finish t) mode s is plain usual =
     mild_gives (end_row mode (tag_group t.name) t s) (end_mild mode (tag_group t.name) t s is) s usual
 usual_row end_of_file mode s is plain usual = mild_gives (end_of_file_row mode s) (file_mild mode s is) s usual
 
-plain_row : (mark : TreeToken) (s : State) → IsPlainMark mark → IsPlain s → Gives (emitted_by mark) s (row s.mode mark s)
+plain_row : (mark : TreeToken) (s : State) → IsPlainMark mark → IsPlain s →
+    Gives (emitted_by mark) s (row s.mode mark s)
 plain_row mark s plain (usually usual) = usual_row mark s.mode s usual.modes.mode plain usual
 plain_row mark s plain (in_text waits) =
     subst (λ m. Gives (emitted_by mark) s (row m mark s)) (sym waits.mode) (pending_row mark s waits)

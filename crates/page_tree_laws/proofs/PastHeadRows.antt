@@ -145,7 +145,8 @@ module _ (is_framed : Bool) (root head : ℕ) where
   past_head_start groups.Meta t s named emitted starts early page formed m e = metadata groups.Meta t s refl early m e
   past_head_start groups.Noframes t s named emitted starts early page formed m e =
       metadata groups.Noframes t s refl early m e
-  past_head_start groups.Script t s named emitted starts early page formed m e = metadata groups.Script t s refl early m e
+  past_head_start groups.Script t s named emitted starts early page formed m e =
+      metadata groups.Script t s refl early m e
   past_head_start groups.Style t s named emitted starts early page formed m e = metadata groups.Style t s refl early m e
   past_head_start groups.Template t s named emitted starts early page formed m e = starts t named
   past_head_start groups.Title t s named emitted starts early page formed m e = metadata groups.Title t s refl early m e

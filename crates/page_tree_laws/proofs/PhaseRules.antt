@@ -73,7 +73,8 @@ by_true P true s x y e comes = comes
 by_true P false s x y e comes = absurd (let k : false ≡ true = e in cc)
 
 -- the rule of a mode
-by_mode : (P : State → Type 0) (mark : TreeToken) (m : InsertionMode) (s : State) → is_by_mode mark s ≡ true → s.mode ≡ m →
+by_mode : (P : State → Type 0) (mark : TreeToken) (m : InsertionMode) (s : State) → is_by_mode mark s ≡ true → s.mode
+    ≡ m →
     ComesTo P s (row m mark s) → ComesTo P s (rule mark s)
 by_mode P mark m s by at comes = by_true P (is_by_mode mark s) s (row s.mode mark s) (foreign_row mark s) by
     (subst (λ k. ComesTo P s (row k mark s)) (sym at) comes)
@@ -117,7 +118,8 @@ module _ (is_framed : Bool) (keep : ActionsKeep) where
       by_mode (IsPhase is_framed) mark modes.Text s (text_by_mode mark s m) m
       (text_row is_framed root head mark s early (text_past_head n m o e) (after_text is_framed root head n s o e))
 
-  pub built_rule : (mark : TreeToken) (s : State) → IsEmittedMark is_framed mark → Ready s → IsFormed s → IsBuilt is_framed s →
+  pub built_rule : (mark : TreeToken) (s : State) → IsEmittedMark is_framed mark → Ready s → IsFormed s →
+      IsBuilt is_framed s →
       ComesTo (IsBuilt is_framed) s (rule mark s)
   built_rule mark s emitted ready formed (body_open root head body apart steady) =
       body_rule is_framed root head body apart keep mark s emitted steady ready formed
@@ -131,7 +133,8 @@ module _ (is_framed : Bool) (keep : ActionsKeep) where
   as_phase (asks ask actions) s comes = built comes
   as_phase (again actions) s comes = built comes
 
-  pub phase_rule : (mark : TreeToken) (s : State) → IsEmittedMark is_framed mark → Ready s → IsFormed s → IsPhase is_framed s →
+  pub phase_rule : (mark : TreeToken) (s : State) → IsEmittedMark is_framed mark → Ready s → IsFormed s →
+      IsPhase is_framed s →
       Comes is_framed s (rule mark s)
   phase_rule mark s emitted ready formed (doctype_to_come m bare) = by_mode (IsPhase is_framed) mark modes.Initial s
       (none_here mark s ready.page bare.stack) m (initial_row is_framed mark s ready.sound.forest m bare)

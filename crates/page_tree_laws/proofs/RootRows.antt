@@ -187,7 +187,8 @@ module _ (is_framed : Bool) (root : ℕ) where
   head_end groups.LineBreak s is = head_comes s is
   head_end group s is = head_to_come root is
 
-  pub before_head_row : (mark : TreeToken) (s : State) → IsRooted root s → Comes is_framed s (row modes.BeforeHead mark s)
+  pub before_head_row : (mark : TreeToken) (s : State) → IsRooted root s →
+      Comes is_framed s (row modes.BeforeHead mark s)
   before_head_row (character c) s is = head_text (is_white_space c) c s is
   before_head_row null s is = head_comes s is
   before_head_row (marks.comment cs) s is = rooted_on s (act (insert_comment cs) s) is

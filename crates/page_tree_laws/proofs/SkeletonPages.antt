@@ -343,7 +343,8 @@ framed_by false name groups.Frameset e unframed = absurd (
     let j : false ≡ true = k in cc)
 framed_by is_framed name group e unframed = tt
 
-emitted_tag : (is_framed : Bool) (kind : TagKind) (t : Tag) → (is_framed ≡ false → is_unframed_name kind t.name ≡ true) →
+emitted_tag : (is_framed : Bool) (kind : TagKind) (t : Tag) →
+    (is_framed ≡ false → is_unframed_name kind t.name ≡ true) →
     IsEmittedMark is_framed (mark_by kind t)
 emitted_tag is_framed StartTag t unframed = framed_by is_framed t.name (tag_group t.name) refl unframed
 emitted_tag is_framed EndTag t unframed = tt
@@ -358,7 +359,8 @@ emitted_item is_framed (items.doctype d) unframed = tt
 emitted_item is_framed items.error unframed = tt
 emitted_item is_framed items.end_of_file unframed = tt
 
-emitted_items : (is_framed : Bool) (emitted : List Item) → (is_framed ≡ false → EmitsNoFrames emitted) → AreEmitted is_framed emitted
+emitted_items : (is_framed : Bool) (emitted : List Item) → (is_framed ≡ false → EmitsNoFrames emitted) →
+    AreEmitted is_framed emitted
 emitted_items is_framed [] unframed = tt
 emitted_items is_framed (item ∷ more) unframed =
     (emitted_item is_framed item (λ e. (unframed e).0), emitted_items is_framed more (λ e. (unframed e).1))

@@ -165,7 +165,8 @@ emitted_by (start t) = []
 emitted_by (finish t) = []
 emitted_by end_of_file = []
 
-pub pending_row : (mark : TreeToken) (s : State) → IsPending s → Gives (emitted_by mark) s (row modes.InTableText mark s)
+pub pending_row : (mark : TreeToken) (s : State) → IsPending s →
+    Gives (emitted_by mark) s (row modes.InTableText mark s)
 pending_row (character d) s waits = waits_more d s waits
 pending_row null s waits = stays s (in_text waits)
 pending_row (comment cs) s waits = pending_comes s waits

@@ -119,7 +119,8 @@ pub fn template_start<S: TreeSink>(
     tag: &Tag,
 ) -> Result<Flow<S::Handle>, ParseFault>
     requires ready { Ready (state_of S.view page.old) }
-    ensures { Follows S.view (in_head_start target Template tag.now (state_of S.view page.old)) page.old page.new result }
+    ensures { Follows S.view (in_head_start target Template tag.now (state_of S.view page.old)) page.old page.new
+        result }
 {
     page.insert_at(target, tag)?;
     page.put_marker()?;

@@ -21,7 +21,8 @@ pub fn in_head_noscript_start<S: TreeSink>(
     tag: &Tag,
 ) -> Result<Flow<S::Handle>, ParseFault>
     requires ready { Ready (state_of S.view page.old) }
-    ensures { Follows S.view (in_head_noscript_start group tag.now (state_of S.view page.old)) page.old page.new result }
+    ensures { Follows S.view (in_head_noscript_start group tag.now (state_of S.view page.old)) page.old page.new
+        result }
 {
     match group {
         TagGroup::Html => html_start(page, tag),

@@ -91,7 +91,8 @@ fn caption_in_table<S: TreeSink>(
     tag: &Tag,
 ) -> Result<Flow<S::Handle>, ParseFault>
     requires ready { Ready (state_of S.view page.old) }
-    ensures { Follows S.view (in_table_start groups.Caption tag.now (state_of S.view page.old)) page.old page.new result }
+    ensures { Follows S.view (in_table_start groups.Caption tag.now (state_of S.view page.old)) page.old page.new
+        result }
 {
     page.pop_down_to(ElementSet::TableContext)?;
     page.put_marker()?;
@@ -133,7 +134,8 @@ fn section_in_table<S: TreeSink>(
     tag: &Tag,
 ) -> Result<Flow<S::Handle>, ParseFault>
     requires ready { Ready (state_of S.view page.old) }
-    ensures { Follows S.view (in_table_start groups.Section tag.now (state_of S.view page.old)) page.old page.new result }
+    ensures { Follows S.view (in_table_start groups.Section tag.now (state_of S.view page.old)) page.old page.new
+        result }
 {
     page.pop_down_to(ElementSet::TableContext)?;
     page.insert(tag)?;
@@ -227,7 +229,8 @@ pub fn end_in_body_fostered<S: TreeSink>(
     tag: &Tag,
 ) -> Result<Flow<S::Handle>, ParseFault>
     requires ready { Ready (state_of S.view page.old) }
-    ensures { Follows S.view (fostered (in_body_end group tag.now (state_of S.view page.old))) page.old page.new result }
+    ensures { Follows S.view (fostered (in_body_end group tag.now (state_of S.view page.old))) page.old page.new
+        result }
 {
     page.set_fostering(true);
     let flow = in_body_end(page, group, tag)?;

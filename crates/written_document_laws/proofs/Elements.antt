@@ -212,7 +212,8 @@ inline_element kinds.link linked name attributes kids h without = record {
   void = never (is_void name) kids (ap is_void h.0);
 }
 
-inlines_readable : (linked trailing : Bool) (content : Content) → IsInlines linked trailing content → IsWithout 0 content →
+inlines_readable : (linked trailing : Bool) (content : Content) → IsInlines linked trailing content →
+    IsWithout 0 content →
     AreReadable content
 inlines_readable linked trailing _ (kinds.nothing _ _) h = tt
 inlines_readable linked trailing _ (kinds.text _ c cs rest is) h = (h.0, inlines_readable linked true rest is h.1)

@@ -336,7 +336,8 @@ inlines::emit_inline-returns-in-Code g t c =
 pub inlines::emit_inline-returns-in-Strong : goal.inlines::emit_inline-returns-in-Strong
 unfolding chars
 inlines::emit_inline-returns-in-Strong g t c =
-    λ rest. element_emitted g.S.Serializer.means _ _ c.emit_element-in-Strong.result (codes "strong") (codes "strong") []
+    λ rest. element_emitted g.S.Serializer.means _ _ c.emit_element-in-Strong.result (codes "strong")
+        (codes "strong") []
     []
     (content_of_inlines (inlines_view c.as_slice-in-Strong.result.now))
     (content_of_inlines (inlines_view c.in-Strong.contents.items)) (content_of_inlines rest)

@@ -3,7 +3,8 @@ use Rattle.std.proofs.lemmas.Str.{chars-nil}
 use Rattle.article_layout.proofs.inlines.say_number.Goals as goal
 
 pub returns-then-not-room-clause-done : goal.returns-then-not-room-clause-done
-returns-then-not-room-clause-done c = let said = c.say.ensures.done c.args.targets.now in search (rules, chars-nil, said)
+returns-then-not-room-clause-done c = let said = c.say.ensures.done c.args.targets.now in search
+    (rules, chars-nil, said)
 
 pub returns-then-not-room-clause-narrow : goal.returns-then-not-room-clause-narrow
 returns-then-not-room-clause-narrow c =
