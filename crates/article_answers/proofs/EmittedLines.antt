@@ -27,7 +27,7 @@ answer_emitted : (found : Option (List Line)) (shown : List ArticleLine) →
 answer_emitted None shown h = absurd (none-some (map emitted_of shown) h)
 answer_emitted (Some ls) shown h =
     ap lines (sym (items_of ls) ∙ ap (map (λ (t : Emitted). t.items))
-        (same_Some (map emitted ls) (map emitted_of shown) h)
+    (same_Some (map emitted ls) (map emitted_of shown) h)
     ∙ items_shown shown)
 
 -- by the options and the blocks that are handed on

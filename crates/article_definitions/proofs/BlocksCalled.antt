@@ -34,7 +34,7 @@ module _ (m : Measure) (tag : Tag) where
   found_awaited fill b None = refl
   found_awaited fill b (Some found) =
       ap (λ (laid : Laid Tag). let all : Option (Laid Tag) =
-          Some (record laid { markers = laid.markers ++ found.0 }) in all)
+      Some (record laid { markers = laid.markers ++ found.0 }) in all)
       (lines_awaited fill found.1 b)
 
   flush_by : (r : Option (Running Tag)) (b : Laid Tag) →

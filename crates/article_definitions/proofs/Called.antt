@@ -239,10 +239,10 @@ module _ (kept : KeepsMarkers) (o : Options) (width k : ℕ) (hanging : List (Ha
       ≡ Some (at before (running (Some fill) (or_filled cs b) (s ++ sourced cs tag tag)))
   said_by [] tag fill true s before =
       ap (λ t. let laid : Option (Laid Tag) = Some (at before (running (Some fill) true t)) in laid)
-          (sym (append-nil s))
+      (sym (append-nil s))
   said_by [] tag fill false s before =
       ap (λ t. let laid : Option (Laid Tag) = Some (at before (running (Some fill) false t)) in laid)
-          (sym (append-nil s))
+      (sym (append-nil s))
   said_by (c ∷ cs) tag fill true s before =
       ap (λ t. option_map (with_running (at before (running (Some fill) true s)))
       (option_map (with_added Normal (c ∷ cs) (runs (Some Normal) (text_block [] s) fill)) t)) (took_is (c ∷ cs) tag s)
@@ -339,7 +339,7 @@ module _ (kept : KeepsMarkers) (o : Options) (width k : ℕ) (hanging : List (Ha
     begun [] before =
         ap (λ ls. let laid : Option (Laid Tag) = Some (at ls None) in laid) (sym (append-nil before))
         ∙ ap (λ ls. let laid : Option (Laid Tag) =
-            Some (at (before ++ cells (stretch outermost [] outermost) ls) None) in laid)
+        Some (at (before ++ cells (stretch outermost [] outermost) ls) None) in laid)
         (sym (no_lines w))
     begun (says cs tag ∷ parts) before =
         ap (λ x. option_and_then (flush m outermost) (option_and_then (run m parts) x)) (said_first cs tag before)

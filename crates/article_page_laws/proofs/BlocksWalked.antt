@@ -334,7 +334,7 @@ module _ (given : RenderOptions) (decorates : Bool) (min_wrap : ℕ) (held : Uni
       (λ b. in_kids p ts b))
       ∙ ap (option_and_then (walk others))
       (then_walk (laying_of.says plain_marking ends_line) (flush (w p) outermost) (here p trailing) (here p trailing)
-          filled
+      filled
       (λ b. flushed given decorates min_wrap held p trailing b))
       ∙ rest_walked rest walked p ts (targets_of o kids) (λ b. b)
       (option_and_then (flush (w p) outermost) filled)

@@ -114,7 +114,7 @@ inlines_are d linked trailing (line_break rest) h =
 inlines_are d linked trailing (articles.span style contents rest) h =
     let b = span_passed d linked trailing style contents rest h in
     kinds.inline linked trailing kinds.mark (style_name style) [] (content_of_inlines contents)
-        (content_of_inlines rest)
+    (content_of_inlines rest)
     (style_marks style, refl) (inlines_are (suc d) linked false contents b.0) (inlines_are d linked false rest b.1)
 inlines_are d linked trailing (link target contents rest) h =
     let b = link_passed d linked trailing target contents rest h in

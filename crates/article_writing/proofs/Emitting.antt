@@ -22,7 +22,7 @@ module _ {S : Type 0} (means : S → Call → Reply → S → Type 0) where
   none_emitted s first others (Ok value) fault e f = cc
   none_emitted s first others (Err other) fault e f =
       λ x. subst (λ o. IsEmitted means s (first x) (refused o) s) (sym (err_same refl e ∙ f))
-          (out_of_memory s (first x))
+      (out_of_memory s (first x))
 
   -- one call
   pub one_emitted : {X A : Type 0} (s t : S) (call : Call) (others : X → List Call) (r : Result A SerializeFault) →

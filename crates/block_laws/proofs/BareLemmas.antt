@@ -99,7 +99,7 @@ finish_link_bare : {H A : Type 0} (m : Marking H A) (kind : Mark) (s : Sub H A) 
 finish_link_bare m kind s =
     let trailing = with_held (m.after s.held kind) s in
     popped_bare (add_inline m (m.mark_text s.held kind) trailing)
-        (add_inline m (m.mark_text s.held kind) (bare_of trailing))
+    (add_inline m (m.mark_text s.held kind) (bare_of trailing))
     (inline_bare m (m.mark_text s.held kind) trailing)
 
 strikeout_bare : {H A : Type 0} (m : Marking H A) (s : Sub H A) → begin_strikeout m (bare_of s)
@@ -120,7 +120,7 @@ begin_colour_bare : {H A : Type 0} (m : Marking H A) (kind : Mark) (s : Sub H A)
 begin_colour_bare m kind s =
     let trailing = with_held (m.after s.held kind) s in
     chosen_by bare_of (m.has_tag s.held kind) (m.has_tag s.held kind) (pushed (m.mark_tag s.held kind) trailing)
-        trailing
+    trailing
     (pushed (m.mark_tag s.held kind) (bare_of trailing)) (bare_of trailing) refl refl refl
 
 finish_colour_bare : {H A : Type 0} (m : Marking H A) (kind : Mark) (s : Sub H A) → finish_colour m kind (bare_of s)
@@ -128,7 +128,7 @@ finish_colour_bare : {H A : Type 0} (m : Marking H A) (kind : Mark) (s : Sub H A
 finish_colour_bare m kind s =
     let trailing = with_held (m.after s.held kind) s in
     chosen_by bare_of (m.ends_tag s.held kind) (m.ends_tag s.held kind) (popped trailing) trailing
-        (popped (bare_of trailing))
+    (popped (bare_of trailing))
     (bare_of trailing) refl refl refl
 
 -- ---- other blocks

@@ -56,7 +56,7 @@ changed_last p h f x held =
     let g = changed p (trailing n) f in
     let before : changed p (trailing n) (f ++ x ∷ []) ≡ g ++ x ∷ [] = changed_before p (trailing n) f (x ∷ []) held in
     let after : changed p (trailing n) (f ++ h x ∷ []) ≡ g ++ h x ∷ [] =
-        changed_before p (trailing n) f (h x ∷ []) held in
+    changed_before p (trailing n) f (h x ∷ []) held in
     let at : n ≡ length g = sym (length_changed p (trailing n) f) in
     ap (changed n h) before ∙ ap (λ k. changed k h (g ++ x ∷ [])) at ∙ changed_end h g x ∙ sym after
 

@@ -91,7 +91,7 @@ pub grown_last : (p : ℕ) (kind : Kind) (f : Forest) → p < nodes f →
     last_of (children_at p (grown p kind f)) ≡ Some (nodes f)
 grown_last p kind f held =
     ap (λ x. last_of x.children) (node_here p (trailing (nodes f)) (f ++ leaf kind ∷ [])
-        (more_held p f (leaf kind) held))
+    (more_held p f (leaf kind) held))
     ∙ last_put (nodes f) (children_at p (f ++ leaf kind ∷ []))
 
 -- a character after no text, and after one

@@ -36,7 +36,7 @@ module _ (asked : Asked) (files : Files) (names : References) (table : IsTableOf
   pub page_shown : (read_failed write_failed flushed : Bool) (before after : ℕ) (rf : Bool) (b a : ℕ)
       → Ends (page_bytes files input asked.file) rf write_failed flushed b a (Ok tt) → Silent
       → IsAnswered asked files input read_failed write_failed flushed before after old new Unread Untouched Silent
-          Reported
+      Reported
       outcomes.Done
   page_shown read_failed wf fl before after rf b a ends silent =
       (record { names = names; table = table; written = ends.0 }, ends.1, ends.2, silent)
@@ -46,7 +46,7 @@ module _ (asked : Asked) (files : Files) (names : References) (table : IsTableOf
       → IsSourceRefusal asked names files asked.file input (read_failed || write_failed) before after error
       → Ends (page_bytes files input asked.file) rf write_failed flushed b a (Err error) → Reported (error_text error)
       → IsAnswered asked files input read_failed write_failed flushed before after old new Unread Untouched Silent
-          Reported
+      Reported
       outcome
   page_refused read_failed wf fl before after rf b a error outcome is reason ends reported =
       subst (IsAnswered asked files input read_failed wf fl before after old new Unread Untouched Silent Reported)
@@ -71,7 +71,7 @@ module _ (asked : Asked) (files : Files) (names : References) (table : IsTableOf
       → outcome ≡ outcomes.Page error → asked.file ≡ None
       → Ends input rf write_failed flushed before after (Err error) → Reported (error_text error)
       → IsAnswered asked files input rf write_failed flushed before after old new Unread Untouched Silent Reported
-          outcome
+      outcome
   refused_here rf wf fl before after error outcome is here ends reported =
       page_refused rf wf fl before after rf before after error outcome is
       (subst (λ file. IsSourceRefusal asked names files file input (rf || wf) before after error) (sym here) ends.0)
@@ -82,7 +82,7 @@ module _ (asked : Asked) (files : Files) (names : References) (table : IsTableOf
       (rf : Bool) (b a : ℕ) → asked.file ≡ Some name → bytes ≡ files name
       → Ends bytes rf write_failed flushed b a (Ok tt) → Silent
       → IsAnswered asked files input read_failed write_failed flushed before after old new Unread Untouched Silent
-          Reported
+      Reported
       outcomes.Done
   shown_there read_failed wf fl before after name bytes rf b a there known ends silent =
       page_shown read_failed wf fl before after rf b a
@@ -94,7 +94,7 @@ module _ (asked : Asked) (files : Files) (names : References) (table : IsTableOf
       → asked.file ≡ Some name → bytes ≡ files name
       → Ends bytes rf write_failed flushed b a (Err error) → Reported (error_text error)
       → IsAnswered asked files input read_failed write_failed flushed before after old new Unread Untouched Silent
-          Reported
+      Reported
       outcome
   refused_there read_failed wf fl before after name bytes rf b a error outcome is there known ends reported =
       let named : Ends (files name) rf wf fl b a (Err error) =

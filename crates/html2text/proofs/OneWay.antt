@@ -43,7 +43,7 @@ pub one_look : (rich : Bool) (c d : PageSetting (Unit {0})) (width : ℕ) (bytes
     → EitherLook rich (HasRichText d width bytes other) (PlainText d width bytes other) → one ≡ other
 one_look true c d width bytes one other alike riches plains first second =
     riches d width bytes one other (texts_alike rich_marking rich_tag rich_closes c d alike width bytes one first)
-        second
+    second
 one_look false c d width bytes one other alike riches plains first second =
     plains d width bytes one other (texts_alike plain_marking (λ _. tt) plain_closes c d alike width bytes one first)
     second
@@ -52,7 +52,7 @@ one_look false c d width bytes one other alike riches plains first second =
 
 pub look_within : (rich : Bool) (c : PageSetting (Unit {0})) (width : ℕ) (bytes text : List ℕ)
     → (HasRichText c width bytes text → IsTextWithin width text) →
-        (PlainText c width bytes text → IsTextWithin width text)
+    (PlainText c width bytes text → IsTextWithin width text)
     → EitherLook rich (HasRichText c width bytes text) (PlainText c width bytes text) → IsTextWithin width text
 look_within true c width bytes text riches plains has = riches has
 look_within false c width bytes text riches plains has = plains has

@@ -129,7 +129,7 @@ cell_ends {H} {A} outer widths more slots made taken has all x room = (
 
 slot_goes : {H A : Type 0} {m : Marking H A} (laws : RoomLaws m) (widths : Option (List ℕ)) (more : List (List Slot))
     (fragments : List (List ℕ)) (slots : List Slot) (made : List (Sub H A × ℕ)) (inside : Step H A)
-        (x : LayoutState H A)
+    (x : LayoutState H A)
     → Goes inside → All (λ c. HasRoom c.0) made → Roomy x
     → IsSomeAnd (in_slot m widths more fragments slots made inside x) Roomy
 slot_goes laws widths more fragments [] made inside x goes all room = (room.0, all)
@@ -145,7 +145,7 @@ slot_goes {m = m} laws widths more fragments (s ∷ slots) made inside x goes al
 
 cell_goes : {H A : Type 0} {m : Marking H A} (laws : RoomLaws m) (widths : Option (List ℕ)) (more : List (List Slot))
     (fragments : List (List ℕ)) (slots : List Slot) (made : List (Sub H A × ℕ)) (inside : Step H A)
-        (x : LayoutState H A)
+    (x : LayoutState H A)
     → Goes inside → All (λ c. HasRoom c.0) made → Roomy x
     → IsSomeAnd (cell_laid m widths more fragments slots made inside x) Roomy
 unfolding cell_laid
@@ -212,7 +212,7 @@ in_row_goes laws head widths [] fragments inside goes = goes_by
 in_row_goes {H} {A} {m} laws head widths (slots ∷ more) fragments inside goes = either_goes (is_shown slots)
     (in_turn (row_begun widths more fragments slots head.fragment)
     (styled m head.style (in_turn inside (row_ended m))))
-        (goes_to (rows widths more (fragments ++ option_to_list head.fragment)))
+    (goes_to (rows widths more (fragments ++ option_to_list head.fragment)))
     (goes_through (row_begun widths more fragments slots head.fragment) _
     (goes_there (cells widths more (fragments ++ option_to_list head.fragment) slots [])
     (All-nil (λ (c : Sub H A × ℕ). HasRoom c.0)))

@@ -128,8 +128,14 @@ Keeps {H} {A} from to f = (in_cell : Bool) → Steps (At in_cell from) (At in_ce
 
 pub stays_on : {H A : Type 0} (p q r : Parts H A) → PartsStayWithin p q → PartsStayWithin q r → PartsStayWithin p r
 stays_on p q r before trailing = record {
-  current = (trailing.current.0, (trailing.current.1.0 ∙ before.current.1.0, trailing.current.1.1
-      ∙ before.current.1.1));
+  current = (
+    trailing.current.0,
+    (
+      trailing.current.1.0 ∙ before.current.1.0,
+      trailing.current.1.1
+          ∙ before.current.1.1,
+    ),
+  );
   below = trailing.below ∙ before.below;
   kept = trailing.kept;
 }

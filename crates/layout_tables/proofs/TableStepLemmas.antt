@@ -29,7 +29,7 @@ use Rattle.table_widths.specs.declared.slot.Slot.{Slot}
 
 pub started_more : {H A : Type 0} (m : Marking H A) (names : List (List ℕ)) (at : ℕ) (name cs : List ℕ)
     (old new : LayoutState H A) (whole : Option (LayoutState H A)) → at < length names → name ≡ get_or names at name →
-        cs ≡ name
+    cs ≡ name
     → says m (starts_fragment cs) old ≡ Some new → whole ≡ start_all m (drop at names) old
     → whole ≡ start_all m (drop (at + 1) names) new
 started_more m names at name cs old new whole l is as_it h so_far =
@@ -39,7 +39,7 @@ started_more m names at name cs old new whole l is as_it h so_far =
 
 pub not_started : {H A : Type 0} (m : Marking H A) (names : List (List ℕ)) (at : ℕ) (name cs : List ℕ)
     (old : LayoutState H A) (whole : Option (LayoutState H A)) → at < length names → name ≡ get_or names at name → cs
-        ≡ name
+    ≡ name
     → says m (starts_fragment cs) old ≡ None → whole ≡ start_all m (drop at names) old → whole ≡ None
 not_started m names at name cs old whole l is as_it h so_far =
     so_far ∙ (ap (λ v. start_all m v old) (drop_more names at name l)
@@ -81,7 +81,7 @@ border_below m options widths l o drawn none h =
 
 pub border_across : {H A : Type 0} (m : Marking H A) (options : RenderOptions) (widths : Option (List ℕ))
     (ws : List ℕ) (n : ℕ) (l : LayoutState H A) (o : Option (LayoutState H A)) → options.draw_borders ≡ true → widths
-        ≡ Some ws
+    ≡ Some ws
     → n ≡ separated ws → says m (adds_border_of n) l ≡ o → top_border m options widths l ≡ o
 border_across m options widths ws n l o drawn some wide h =
     ap (λ b. (if b then says m (border_call widths) else Some) l) drawn
@@ -208,7 +208,7 @@ pub cell_begins : {H A : Type 0} (m : Marking H A) (width : ℕ) (names : List (
 unfolding cell_begun in_cell
 cell_begins {H} {A} m width names old mid o h k =
     ap (λ (l : LayoutState H A). start_all m names (in_table (outside true) l)) (some_same (in_part m width old) mid h)
-        ∙ k
+    ∙ k
 
 abbrev laying_at : {H A : Type 0} → Around → TablePlace H A → Parts H A → LayoutState H A
 laying_at around place p = record { parts = p; around = around; table = place }
@@ -259,7 +259,7 @@ never_fenced {H} {A} m options fenced widths slots l one h k =
 
 pub never_bordered : {H A : Type 0} (m : Marking H A) (options : RenderOptions) (fenced : Bool)
     (widths : Option (List ℕ)) (slots : List (List Slot)) (l one two : LayoutState H A) → says m starts_table l
-        ≡ Some one
+    ≡ Some one
     → fence m fenced one ≡ Some two → top_border m options widths two ≡ None
     → table_begun m options fenced widths slots l ≡ None
 never_bordered {H} {A} m options fenced widths slots l one two h k b =

@@ -134,7 +134,7 @@ no_item_opens {H} {A} m mark columns least inside old mid same h =
 -- what stands in a value that is no part stands where it is
 pub held_alone : {H A : Type 0} (m : Marking H A) (w : Measure) (info : RenderInfo) (c : Content)
     (inside : Step H A) (l : LayoutState H A) → ((level : ℕ) → info ≡ infos.Heading level → ⊥) →
-        (info ≡ infos.Quote → ⊥)
+    (info ≡ infos.Quote → ⊥)
     → (info ≡ infos.Bullets → ⊥) → ((first : ℤ) → info ≡ infos.Numbers first → ⊥) → (info ≡ infos.Details → ⊥)
     → (info ≡ infos.Table → ⊥) → holds m info c inside l ≡ option_and_then (unwound m w []) (inside l)
 unfolding holds

@@ -155,7 +155,7 @@ cell_waits m w inside outer here widths more left made taken new same =
 any_place : {H A : Type 0} (m : Marking H A) (widths : Option (List ℕ)) (more : List (List Slot))
     (fragments : List (List ℕ)) (slots : List Slot) (made : List (Sub H A × ℕ)) (inside : Step H A)
     (l : LayoutState H A) (place : TablePlace H A) →
-        in_slot m widths more fragments slots made inside (in_table place l)
+    in_slot m widths more fragments slots made inside (in_table place l)
     ≡ in_slot m widths more fragments slots made inside l
 unfolding cell_begun in_cell in_part
 any_place m widths more fragments [] made inside l place = refl
@@ -164,7 +164,7 @@ any_place m widths more fragments (s ∷ slots) made inside l place = refl
 pub cell_at_any : {H A : Type 0} (m : Marking H A) (widths : Option (List ℕ)) (more : List (List Slot))
     (fragments : List (List ℕ)) (slots : List Slot) (made : List (Sub H A × ℕ)) (inside : Step H A)
     (l : LayoutState H A) (place : TablePlace H A) →
-        cell_laid m widths more fragments slots made inside (in_table place l)
+    cell_laid m widths more fragments slots made inside (in_table place l)
     ≡ cell_laid m widths more fragments slots made inside l
 unfolding cell_laid
 cell_at_any m widths more fragments slots made inside l place = any_place m widths more fragments (from_cell slots)

@@ -90,7 +90,7 @@ no_follow m w head c inside old led begun held parts false is h k p never = absu
 
 pub value_opens : {X H A : Type 0} (f : X → Continuation H A) (m : Marking H A) (w : Measure) (around : Around)
     (style : RenderStyle) (within : Step H A) (xs ys zs : List X) (old one two : LayoutState H A)
-        (o : Option (LayoutState H A))
+    (o : Option (LayoutState H A))
     → ((x : Step H A) → placed m around x old ≡ option_and_then (unwound m w (map f xs)) (x one))
     → ((x : Step H A) → styled m style x one ≡ option_and_then (unwound m w (map f ys)) (x two))
     → within two ≡ option_and_then (unwound m w (map f zs)) o

@@ -148,7 +148,7 @@ pub replaced_text-fault : (bs more : List ℕ) (n : ℕ) → (decoded bs).char �
     → replaced_text (bs ++ more) ≡ replacement ∷ replaced_text (drop n bs ++ more)
 replaced_text-fault bs more n none fault =
     let some : 0 < length bs = ⊎_elim (λ (p : 0 < length bs). p)
-        (λ (z : length bs ≤ 0). let e = ends_empty bs (omega arith) in absurd cc) (cases_lt 0 (length bs)) in
+    (λ (z : length bs ≤ 0). let e = ends_empty bs (omega arith) in absurd cc) (cases_lt 0 (length bs)) in
     let same = decoded-more bs more n none fault in
     let size : n ≡ (decoded bs).size =
     sym (ap (λ o. unwrap_or o (length bs)) fault) ∙ utf8_invalid_len-decoded bs none in

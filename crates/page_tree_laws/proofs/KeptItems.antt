@@ -79,7 +79,7 @@ none_below x h = omega (arith, h)
 given_keeps : ActionsKeep → (mark : TreeToken) (s : State) (r : Row) (further : State → Settled) → Ready s →
     Falls mark s r → Gives (emitted_by mark) s r →
     ((s' : State) → Ready s' → IsPlain s' → rank mark s' < rank mark s →
-        Keeps (emitted_by mark) s' (further s').state) →
+    Keeps (emitted_by mark) s' (further s').state) →
     Keeps (emitted_by mark) s (given_by r s further).state
 given_keeps keep mark s (done actions) further ready falls gives more =
     record { ready = all_ready keep actions s ready; comes = gives }

@@ -88,7 +88,7 @@ module _ {A H : Type 0} (table : References) (knows : KnowsEscapes table) (means
       let final : A = ended_by means (means.step emitted (tag closing)) later in
       subst (Reads last s (start_tag ++ (source ++ (end_tag ++ rest))))
       (sym (ap (λ z. means.step z end_of_file) (text_emitted means hears.skips opened text
-          (end_of (codes "p") ∷ later))))
+      (end_of (codes "p") ∷ later))))
       (start_read last s (source ++ (end_tag ++ rest)) final leads
       (text_read means hears.joins hears.skips table knows (Some (codes "p")) (end_tag ++ rest) final opened source
       text is

@@ -337,7 +337,7 @@ pub inlines::emit_inline-returns-in-Strong : goal.inlines::emit_inline-returns-i
 unfolding chars
 inlines::emit_inline-returns-in-Strong g t c =
     λ rest. element_emitted g.S.Serializer.means _ _ c.emit_element-in-Strong.result (codes "strong")
-        (codes "strong") []
+    (codes "strong") []
     []
     (content_of_inlines (inlines_view c.as_slice-in-Strong.result.now))
     (content_of_inlines (inlines_view c.in-Strong.contents.items)) (content_of_inlines rest)

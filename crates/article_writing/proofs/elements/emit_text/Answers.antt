@@ -23,7 +23,7 @@ returns g c =
     let same : List Call → List Call = λ more. more in
     let emitted : List Call → List Call = λ more. text_run (chars c.args.text.now) ∷ more in
     reemitted g.S.Serializer.means _ _ _ emitted same (λ more. calls_and (text_content (chars c.args.text.now)) more)
-        same
+    same
     same
     (λ more. some_calls c.args.text.now more c.utf8.text (sym c.is_empty.ensures ∙ c.if-is_empty.false))
     (λ more. refl)

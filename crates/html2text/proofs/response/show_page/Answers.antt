@@ -73,7 +73,7 @@ pub returns : goal.returns
 returns g c =
     let errors = c.complain.new.errors in
     let reported = λ (text : _). Complains (g.E.ByteWriter.has_failed errors)
-        (g.E.ByteWriter.contents c.args.errors.now)
+    (g.E.ByteWriter.contents c.args.errors.now)
     (g.E.ByteWriter.contents errors) text in (
       subst reported c.text.ensures c.complain.ensures,
       refl,

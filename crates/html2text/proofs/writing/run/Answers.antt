@@ -30,6 +30,6 @@ returns-clause-within g c = λ tag tagging steady overflow wrap wide.
     let setting = page_setting g.D.TextDecorator.view c.args.config in
     written_within g.D.Annotation.EqualCopy.seen g.D.TextDecorator.view setting c.args.width
     tag tagging (λ bytes emitted has. c.a_text_keeps_its_width.ensures tag setting c.args.width bytes emitted steady
-        overflow
+    overflow
     wrap wide has) (g.R.ByteReader.remaining c.args.reader.now) _ _ c.in_ok-lines.lines.items c.in_ok-lines.ensures.text
     (rw c.deref.ensures.value at c.in_ok-write_lines.ensures.ok)

@@ -5,7 +5,7 @@ use Rattle.layout_state.proofs.laying.LayoutState.add_cells.Goals as goal
 pub returns-clause-done : goal.returns-clause-done
 returns-clause-done g c = on_ok_weaker c.unless_failed.result (λ ok. λ tag p.
     said _ _ _ _ _ c.current_mut.ensures.sub (when_ok _ c.append_columns_with_borders.result ok
-        c.append_columns_with_borders.ensures.outcome.done tag p))
+    c.append_columns_with_borders.ensures.outcome.done tag p))
     c.unless_failed.ensures.ok
 
 pub returns-clause-narrow : goal.returns-clause-narrow

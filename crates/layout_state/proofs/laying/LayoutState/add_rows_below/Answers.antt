@@ -5,7 +5,7 @@ use Rattle.layout_state.proofs.laying.LayoutState.add_rows_below.Goals as goal
 pub returns-clause-done : goal.returns-clause-done
 returns-clause-done g c = on_ok_weaker c.unless_failed.result (λ ok. λ tag p.
     said _ _ _ _ _ c.current_mut.ensures.sub (when_ok _ c.append_vert_row.result ok
-        c.append_vert_row.ensures.outcome.done tag p))
+    c.append_vert_row.ensures.outcome.done tag p))
     c.unless_failed.ensures.ok
 
 pub returns-clause-narrow : goal.returns-clause-narrow
