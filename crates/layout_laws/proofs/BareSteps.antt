@@ -1,5 +1,5 @@
 -- Each step makes the same of a page whose renderers keep no annotations: outside of tables.
-use Rattle.std.proofs.Common.{◌≡◌, ℕ, ◌-◌, Bool, true, false, List, Option, None, Some, map, ap, ◌∙◌, refl}
+use Rattle.std.proofs.Common.{◌≡◌, ℕ, ◌-◌, Bool, true, false, List, [], Option, None, Some, map, ap, ◌∙◌, refl}
 use Rattle.std.specs.Prelude.{if◌then◌else◌}
 use Rattle.std.specs.Option.{option_map, option_and_then}
 use Rattle.block_trait.specs.Bare.{bare_of}
@@ -14,7 +14,9 @@ use Rattle.render_values.specs.declared.info.Head.{Head}
 use Rattle.render_values.specs.declared.info.RenderInfo.{RenderInfo}
 use Rattle.render_values.specs.declared.info.RenderInfo.TheVariants as infos
 use Rattle.render_values.specs.declared.style.RenderStyle.{RenderStyle}
+use Rattle.text_pieces.specs.declared.white_space.WhiteSpace.TheVariants.{Pre}
 use Rattle.layout_state.specs.Begins.{begins, ends, following, fragment_leads, leading, named, style_begins, style_ends}
+use Rattle.layout_state.specs.Begins.{rule_border, rule_laid}
 use Rattle.layout_state.specs.Items.{item_columns, item_mark, last_mark, next_mark, padded, spaces}
 use Rattle.layout_state.specs.LayoutState.{LayoutState, Step, TablePlace, after_prefix, begins_link, cells, ends_link}
 use Rattle.layout_state.specs.LayoutState.{for_some, goes_on, goes_to, in_current, in_part, in_parts, in_turn, mark_of}
@@ -209,12 +211,25 @@ pub placed_alike : {H A : Type 0} {m : Marking H A} (laws : BareLaws m) (around 
 placed_alike laws Flow f g same = same
 placed_alike laws (Items mark columns least) f g same = item_alike laws mark columns least f g same
 
+border_alike : {H A : Type 0} {m : Marking H A} (laws : BareLaws m) → Alike (rule_border m) (rule_border m)
+border_alike {m = m} laws = record {
+  at = λ l. (either l.parts.current.options.draw_borders (says m calls.adds_border) (says m calls.adds_border) Some Some
+      (says_alike laws calls.adds_border) stays).at l;
+}
+
+rule_alike : {H A : Type 0} {m : Marking H A} (laws : BareLaws m) → Alike (rule_laid m) (rule_laid m)
+rule_alike {m = m} laws =
+    turn _ _ _ _ (turn _ _ _ _ (says_alike laws (calls.starts_mode Pre))
+    (turn _ _ _ _ (says_alike laws (calls.adds_text [])) (says_alike laws calls.ends_mode)))
+    (turn _ _ _ _ (says_alike laws calls.ends_line) (border_alike laws))
+
 pub begins_alike : {H A : Type 0} {m : Marking H A} (laws : BareLaws m) (info : RenderInfo)
     → Alike (begins m info) (begins m info)
 unfolding begins
 begins_alike laws (infos.Text cs) = says_alike laws (calls.adds_text cs)
 begins_alike laws (infos.Image source title) = says_alike laws (calls.adds_image source title)
 begins_alike laws infos.Break = says_alike laws calls.breaks_line
+begins_alike laws infos.Rule = rule_alike laws
 begins_alike laws (infos.Link target) = link_begins laws target
 begins_alike laws infos.Emphasis = says_alike laws (calls.starts_mark marks.emphasis_start)
 begins_alike laws infos.Strong = says_alike laws (calls.starts_mark marks.strong_start)
@@ -267,6 +282,7 @@ ends_alike laws infos.Nothing = stays
 ends_alike laws (infos.Text cs) = stays
 ends_alike laws (infos.Image source title) = stays
 ends_alike laws infos.Break = stays
+ends_alike laws infos.Rule = stays
 ends_alike laws infos.Container = stays
 ends_alike laws infos.Bullets = stays
 ends_alike laws (infos.Numbers first) = stays

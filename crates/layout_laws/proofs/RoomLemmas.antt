@@ -1,5 +1,5 @@
 -- Where characters may overflow, each value is laid out.
-use Rattle.std.proofs.Common.{ℕ, ◌-◌, Bool, true, false, List, Option, None, Some}
+use Rattle.std.proofs.Common.{ℕ, ◌-◌, Bool, true, false, List, [], Option, None, Some}
 use Rattle.std.specs.Prelude.{All, IsSome, IsSomeAnd, if◌then◌else◌}
 use Rattle.std.specs.Option.{option_map}
 use Rattle.block_layout_laws.proofs.OptionLemmas.{given_mapped, given_chained}
@@ -15,7 +15,9 @@ use Rattle.render_values.specs.declared.info.Head.{Head}
 use Rattle.render_values.specs.declared.info.RenderInfo.{RenderInfo}
 use Rattle.render_values.specs.declared.info.RenderInfo.TheVariants as infos
 use Rattle.render_values.specs.declared.style.RenderStyle.{RenderStyle}
+use Rattle.text_pieces.specs.declared.white_space.WhiteSpace.TheVariants.{Pre}
 use Rattle.layout_state.specs.Begins.{begins, ends, following, fragment_leads, leading, named, style_begins, style_ends}
+use Rattle.layout_state.specs.Begins.{rule_border, rule_laid}
 use Rattle.layout_state.specs.Items.{next_mark}
 use Rattle.layout_state.specs.LayoutState.{LayoutState, Step, TablePlace, after_prefix, begins_link, cells, ends_link}
 use Rattle.layout_state.specs.LayoutState.{for_some, goes_on, goes_to, in_current, in_part, in_parts, in_turn, outside}
@@ -124,11 +126,26 @@ pub list_goes : {H A : Type 0} (a : Around) (inside : Step H A) (x : LayoutState
 list_goes a inside x goes room = goes_through (goes_on a) (in_turn inside (goes_on Flow)) (goes_around a)
     (goes_through inside (goes_on Flow) goes (goes_around Flow)) x room
 
+border_goes_by : {H A : Type 0} {m : Marking H A} (laws : RoomLaws m) (drawn : Bool)
+    → Goes (if drawn then says m calls.adds_border else Some)
+border_goes_by laws true = says_goes laws calls.adds_border tt
+border_goes_by laws false = goes_by
+
+border_goes : {H A : Type 0} {m : Marking H A} (laws : RoomLaws m) → Goes (rule_border m)
+border_goes laws x room = border_goes_by laws x.parts.current.options.draw_borders x room
+
+rule_goes : {H A : Type 0} {m : Marking H A} (laws : RoomLaws m) → Goes (rule_laid m)
+rule_goes {m = m} laws =
+    goes_through _ _ (goes_through _ _ (says_goes laws (calls.starts_mode Pre) tt)
+    (goes_through _ _ (says_goes laws (calls.adds_text []) tt) (says_goes laws calls.ends_mode tt)))
+    (goes_through _ _ (says_goes laws calls.ends_line tt) (border_goes laws))
+
 pub begins_goes : {H A : Type 0} {m : Marking H A} (laws : RoomLaws m) (info : RenderInfo) → Goes (begins m info)
 unfolding begins
 begins_goes laws (infos.Text cs) = says_goes laws (calls.adds_text cs) tt
 begins_goes laws (infos.Image source title) = says_goes laws (calls.adds_image source title) tt
 begins_goes laws infos.Break = says_goes laws calls.breaks_line tt
+begins_goes laws infos.Rule = rule_goes laws
 begins_goes laws (infos.Link target) = link_goes laws target
 begins_goes laws infos.Emphasis = says_goes laws (calls.starts_mark marks.emphasis_start) tt
 begins_goes laws infos.Strong = says_goes laws (calls.starts_mark marks.strong_start) tt
@@ -178,6 +195,7 @@ ends_goes laws infos.Nothing = goes_by
 ends_goes laws (infos.Text cs) = goes_by
 ends_goes laws (infos.Image source title) = goes_by
 ends_goes laws infos.Break = goes_by
+ends_goes laws infos.Rule = goes_by
 ends_goes laws infos.Container = goes_by
 ends_goes laws infos.Bullets = goes_by
 ends_goes laws (infos.Numbers first) = goes_by

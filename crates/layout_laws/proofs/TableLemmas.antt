@@ -51,6 +51,7 @@ table_sound w whole infos.Nothing inside = no_rows
 table_sound w whole (infos.Text cs) inside = no_rows
 table_sound w whole (infos.Image source title) inside = no_rows
 table_sound w whole infos.Break inside = no_rows
+table_sound w whole infos.Rule inside = no_rows
 table_sound w whole infos.Container inside = no_rows
 table_sound w whole (infos.Link target) inside = no_rows
 table_sound w whole infos.Emphasis inside = no_rows

@@ -66,6 +66,7 @@ holds_keeps {m = m} laws infos.Nothing c inside fits table keeps among = keeps_f
 holds_keeps {m = m} laws (infos.Text cs) c inside fits table keeps among = keeps_flow m c.items inside keeps
 holds_keeps {m = m} laws (infos.Image source title) c inside fits table keeps among = keeps_flow m c.items inside keeps
 holds_keeps {m = m} laws infos.Break c inside fits table keeps among = keeps_flow m c.items inside keeps
+holds_keeps {m = m} laws infos.Rule c inside fits table keeps among = keeps_flow m c.items inside keeps
 holds_keeps {m = m} laws infos.Container c inside fits table keeps among = keeps_flow m c.items inside keeps
 holds_keeps {m = m} laws (infos.Link target) c inside fits table keeps among = keeps_flow m c.items inside keeps
 holds_keeps {m = m} laws infos.Emphasis c inside fits table keeps among = keeps_flow m c.items inside keeps
@@ -178,6 +179,7 @@ among_keeps laws infos.Nothing head items inside widths x keeps sound at = (stay
 among_keeps laws (infos.Text cs) head items inside widths x keeps sound at = (stays x.parts sound.kept, at)
 among_keeps laws (infos.Image source title) head items inside widths x keeps sound at = (stays x.parts sound.kept, at)
 among_keeps laws infos.Break head items inside widths x keeps sound at = (stays x.parts sound.kept, at)
+among_keeps laws infos.Rule head items inside widths x keeps sound at = (stays x.parts sound.kept, at)
 among_keeps laws infos.Container head items inside widths x keeps sound at = (stays x.parts sound.kept, at)
 among_keeps laws (infos.Link target) head items inside widths x keeps sound at = (stays x.parts sound.kept, at)
 among_keeps laws infos.Emphasis head items inside widths x keeps sound at = (stays x.parts sound.kept, at)
@@ -214,6 +216,7 @@ in_row_keeps laws infos.Nothing head items inside widths x keeps sound at = (sta
 in_row_keeps laws (infos.Text cs) head items inside widths x keeps sound at = (stays x.parts sound.kept, at)
 in_row_keeps laws (infos.Image source title) head items inside widths x keeps sound at = (stays x.parts sound.kept, at)
 in_row_keeps laws infos.Break head items inside widths x keeps sound at = (stays x.parts sound.kept, at)
+in_row_keeps laws infos.Rule head items inside widths x keeps sound at = (stays x.parts sound.kept, at)
 in_row_keeps laws infos.Container head items inside widths x keeps sound at = (stays x.parts sound.kept, at)
 in_row_keeps laws (infos.Link target) head items inside widths x keeps sound at = (stays x.parts sound.kept, at)
 in_row_keeps laws infos.Emphasis head items inside widths x keeps sound at = (stays x.parts sound.kept, at)

@@ -1,5 +1,5 @@
 -- No line passes the width of its renderer, whatever values are laid out outside of tables.
-use Rattle.std.proofs.Common.{◌≡◌, ◌+◌, ◌-◌, ◌≤◌, ◌≤ℤ◌, ◌∙◌, Bool, IfSome, List, None, Option, Some, ap, arith, false}
+use Rattle.std.proofs.Common.{◌≡◌, ◌+◌, ◌-◌, ◌≤◌, ◌≤ℤ◌, ◌∙◌, [], Bool, IfSome, List, None, Option, Some, ap, arith, false}
 use Rattle.std.proofs.Common.{max, refl, subst, suc, sym, true, zero, ℕ, ℤ}
 use Rattle.std.specs.Prelude.{FitsSigned, if◌then◌else◌}
 use Rattle.std.specs.Int.{w64}
@@ -26,7 +26,9 @@ use Rattle.render_values.specs.declared.info.Head.{Head}
 use Rattle.render_values.specs.declared.info.RenderInfo.{RenderInfo}
 use Rattle.render_values.specs.declared.info.RenderInfo.TheVariants as infos
 use Rattle.render_values.specs.declared.style.RenderStyle.{RenderStyle}
+use Rattle.text_pieces.specs.declared.white_space.WhiteSpace.TheVariants.{Pre}
 use Rattle.layout_state.specs.Begins.{begins, ends, following, fragment_leads, leading, named, style_begins, style_ends}
+use Rattle.layout_state.specs.Begins.{rule_border, rule_laid}
 use Rattle.layout_state.specs.Items.{item_columns, item_mark, last_mark, next_mark, number_after, padded, spaces}
 use Rattle.layout_state.specs.LayoutState.{LayoutState, Step, after_prefix, begins_link, ends_link, for_some, goes_on}
 use Rattle.layout_state.specs.LayoutState.{in_current, in_part, in_parts, in_turn, mark_of, outside, part_begun}
@@ -382,12 +384,29 @@ placed_keeps {m = m} laws (Items mark columns least) inside in_cell x fits keeps
 
 -- ---- a value
 
+border_keeps_by : {H A : Type 0} {m : Marking H A} (laws : WidthLaws m) (drawn : Bool)
+    → Keeps Flow Flow (if drawn then says m calls.adds_border else Some)
+border_keeps_by laws true = says_keeps laws Flow calls.adds_border (λ s. tt)
+border_keeps_by laws false = keeps_by Flow
+
+border_keeps : {H A : Type 0} {m : Marking H A} (laws : WidthLaws m) → Keeps Flow Flow (rule_border m)
+border_keeps laws in_cell x sound at = border_keeps_by laws x.parts.current.options.draw_borders in_cell x sound at
+
+rule_keeps : {H A : Type 0} {m : Marking H A} (laws : WidthLaws m) → Keeps Flow Flow (rule_laid m)
+rule_keeps {m = m} laws =
+    keeps_through Flow Flow Flow _ _
+    (keeps_through Flow Flow Flow _ _ (says_keeps laws Flow (calls.starts_mode Pre) (λ s. tt))
+    (keeps_through Flow Flow Flow _ _ (says_keeps laws Flow (calls.adds_text []) (λ s. tt))
+    (says_keeps laws Flow calls.ends_mode (λ s. tt))))
+    (keeps_through Flow Flow Flow _ _ (says_keeps laws Flow calls.ends_line (λ s. tt)) (border_keeps laws))
+
 pub begins_keeps : {H A : Type 0} {m : Marking H A} (laws : WidthLaws m) (info : RenderInfo)
     → Keeps Flow Flow (begins m info)
 unfolding begins
 begins_keeps laws (infos.Text cs) = says_keeps laws Flow (calls.adds_text cs) (λ s. tt)
 begins_keeps laws (infos.Image source title) = says_keeps laws Flow (calls.adds_image source title) (λ s. tt)
 begins_keeps laws infos.Break = says_keeps laws Flow calls.breaks_line (λ s. tt)
+begins_keeps laws infos.Rule = rule_keeps laws
 begins_keeps laws (infos.Link target) = link_keeps laws Flow target
 begins_keeps laws infos.Emphasis = says_keeps laws Flow (calls.starts_mark marks.emphasis_start) (λ s. tt)
 begins_keeps laws infos.Strong = says_keeps laws Flow (calls.starts_mark marks.strong_start) (λ s. tt)
@@ -440,6 +459,7 @@ ends_keeps laws infos.Nothing = keeps_by Flow
 ends_keeps laws (infos.Text cs) = keeps_by Flow
 ends_keeps laws (infos.Image source title) = keeps_by Flow
 ends_keeps laws infos.Break = keeps_by Flow
+ends_keeps laws infos.Rule = keeps_by Flow
 ends_keeps laws infos.Container = keeps_by Flow
 ends_keeps laws infos.Bullets = keeps_by Flow
 ends_keeps laws (infos.Numbers first) = keeps_by Flow

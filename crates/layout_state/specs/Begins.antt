@@ -1,6 +1,7 @@
 -- What is done where a value begins and where it ends.
-use Rattle.std.specs.Prelude.{ℕ, Bool, true, false, List, Option, Some, if◌then◌else◌}
-use Rattle.block_trait.specs.Calls.{adds_image, adds_text, breaks_line, ends_block, ends_colour, ends_line, ends_mark}
+use Rattle.std.specs.Prelude.{ℕ, Bool, true, false, List, [], Option, Some, if◌then◌else◌}
+use Rattle.text_pieces.specs.declared.white_space.WhiteSpace.TheVariants.{Pre}
+use Rattle.block_trait.specs.Calls.{adds_border, adds_image, adds_text, breaks_line, ends_block, ends_colour, ends_line, ends_mark}
 use Rattle.block_trait.specs.Calls.{ends_mode, ends_preformat, ends_strikeout, starts_block, starts_colour}
 use Rattle.block_trait.specs.Calls.{starts_fragment, starts_mark, starts_mode, starts_preformat, starts_strikeout}
 use Rattle.block_trait.specs.Renderers.{Marking}
@@ -15,10 +16,28 @@ use Rattle.layout_state.specs.LayoutState.{Step, begins_link, ends_link, for_som
 
 -- ---- before what stands in a value, and after it
 
+-- A rule ends the line, or starts the block where that is awaited, as a text of mode `pre` does that has no characters;
+-- and then it is a border, where borders are drawn.
+abbrev pub rule_border : {H A : Type 0} → Marking H A → Step H A
+rule_border m l = (if l.parts.current.options.draw_borders then says m adds_border else Some) l
+
+abbrev pub no_text : {H A : Type 0} → Marking H A → Step H A
+no_text m = in_turn (says m (adds_text [])) (says m ends_mode)
+
+abbrev pub empty_text : {H A : Type 0} → Marking H A → Step H A
+empty_text m = in_turn (says m (starts_mode Pre)) (no_text m)
+
+abbrev pub rule_line : {H A : Type 0} → Marking H A → Step H A
+rule_line m = in_turn (says m ends_line) (rule_border m)
+
+abbrev pub rule_laid : {H A : Type 0} → Marking H A → Step H A
+rule_laid m = in_turn (empty_text m) (rule_line m)
+
 unfoldable pub begins : {H A : Type 0} → Marking H A → RenderInfo → Step H A
 begins m (infos.Text cs) = says m (adds_text cs)
 begins m (infos.Image source title) = says m (adds_image source title)
 begins m infos.Break = says m breaks_line
+begins m infos.Rule = rule_laid m
 begins m (infos.Link target) = begins_link m target
 begins m infos.Emphasis = says m (starts_mark emphasis_start)
 begins m infos.Strong = says m (starts_mark strong_start)
@@ -59,6 +78,7 @@ abbrev pub fragment_leads : RenderInfo → Bool
 fragment_leads (infos.Text cs) = true
 fragment_leads (infos.Image source title) = true
 fragment_leads infos.Break = true
+fragment_leads infos.Rule = true
 fragment_leads infos.Superscript = true
 fragment_leads infos.Bullets = true
 fragment_leads (infos.Numbers first) = true

@@ -50,6 +50,7 @@ mod looks;
 mod marks;
 mod parts;
 mod place;
+mod rule;
 
 pub use around::{Around, ItemMark};
 pub use laying::LayoutState;

@@ -147,6 +147,7 @@ held_alone m w infos.Nothing content inside l a b c d e f = nothing_waits m w (i
 held_alone m w (infos.Text cs) content inside l a b c d e f = nothing_waits m w (inside l)
 held_alone m w (infos.Image source title) content inside l a b c d e f = nothing_waits m w (inside l)
 held_alone m w infos.Break content inside l a b c d e f = nothing_waits m w (inside l)
+held_alone m w infos.Rule content inside l a b c d e f = nothing_waits m w (inside l)
 held_alone m w infos.Container content inside l a b c d e f = nothing_waits m w (inside l)
 held_alone m w (infos.Link target) content inside l a b c d e f = nothing_waits m w (inside l)
 held_alone m w infos.Emphasis content inside l a b c d e f = nothing_waits m w (inside l)

@@ -39,6 +39,7 @@ holds_alike m infos.Nothing c d inside h = refl
 holds_alike m (infos.Text cs) c d inside h = refl
 holds_alike m (infos.Image source title) c d inside h = refl
 holds_alike m infos.Break c d inside h = refl
+holds_alike m infos.Rule c d inside h = refl
 holds_alike m infos.Container c d inside h = refl
 holds_alike m (infos.Link target) c d inside h = refl
 holds_alike m infos.Emphasis c d inside h = refl

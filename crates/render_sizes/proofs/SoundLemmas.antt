@@ -119,6 +119,7 @@ content_by asks grids m infos.Nothing x items h = omega arith
 content_by asks grids m (infos.Text cs) x items h = omega arith
 content_by asks grids m (infos.Image source title) x items h = omega arith
 content_by asks grids m infos.Break x items h = omega arith
+content_by asks grids m infos.Rule x items h = omega arith
 content_by asks grids m (infos.Link target) x items h = let a = h.content in omega arith
 content_by asks grids m (infos.Heading level) x items h = let a = h.content in omega arith
 content_by asks grids m infos.Quote x items h = let a = h.content in omega arith
@@ -152,6 +153,7 @@ size_fits m infos.Nothing x items h = omega arith
 size_fits m (infos.Text cs) x items h = capped_fits (text_size cs)
 size_fits m (infos.Image source title) x items h = capped_fits (text_size title + 2)
 size_fits m infos.Break x items h = omega arith
+size_fits m infos.Rule x items h = omega arith
 size_fits m (infos.Link target) x items h = capped_fits (x.extent.size + 5)
 size_fits m (infos.Heading level) x items h = capped_fits (x.extent.size + m.prefixes.heading level)
 size_fits m infos.Quote x items h = capped_fits (x.extent.size + m.prefixes.quote)

@@ -86,6 +86,7 @@ extent_by m infos.Nothing inside items = nothing_wide
 extent_by m (infos.Text cs) inside items = of_columns m.min_wrap (capped (text_size cs))
 extent_by m (infos.Image source title) inside items = of_columns m.min_wrap (capped (text_size title + 2))
 extent_by m infos.Break inside items = record { size = 1; least = 1 }
+extent_by m infos.Rule inside items = record { size = 1; least = 1 }
 extent_by m (infos.Link target) inside items =
     record { size = capped (inside.extent.size + 5); least = inside.extent.least }
 extent_by m (infos.Heading level) inside items = prefixed (m.prefixes.heading level) inside.extent

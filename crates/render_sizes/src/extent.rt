@@ -98,6 +98,7 @@ pub(crate) fn extent_by<P: Prefixes>(
             text_size(title.as_str()).saturating_add(2),
         )),
         RenderInfo::Break => Ok(Extent { size: 1, least: 1 }),
+        RenderInfo::Rule => Ok(Extent { size: 1, least: 1 }),
         RenderInfo::Link(_) => Ok(Extent {
             size: inside.size.saturating_add(5),
             least: inside.least,

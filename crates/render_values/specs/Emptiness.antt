@@ -11,11 +11,12 @@ abbrev pub holds_none : Values → Bool
 holds_none none = true
 holds_none (value head inside rest) = false
 
--- text or title of white space, a break, or what nothing stands in; a table never
+-- text or title of white space, a break, a rule, or what nothing stands in; a table never
 abbrev pub is_empty_info : RenderInfo → (alone : Bool) → Bool
 is_empty_info (infos.Text cs) alone = list_all is_whitespace cs
 is_empty_info (infos.Image source title) alone = list_all is_whitespace title
 is_empty_info infos.Break alone = true
+is_empty_info infos.Rule alone = true
 is_empty_info infos.Table alone = false
 is_empty_info _ alone = alone
 

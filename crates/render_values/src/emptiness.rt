@@ -23,6 +23,7 @@ fn is_empty_info(info: &RenderInfo, alone: bool) -> bool
         RenderInfo::Text(text) => is_white_space(text.as_str()),
         RenderInfo::Image { title, .. } => is_white_space(title.as_str()),
         RenderInfo::Break => true,
+        RenderInfo::Rule => true,
         RenderInfo::Table => false,
         _ => alone,
     }
@@ -52,7 +53,7 @@ pub(crate) fn nodes_after(nodes: &[RenderNode], count: usize) -> &[RenderNode]
     &nodes[count..]
 }
 
-/// Whether all of some values are shallow-empty: texts or titles of white space, breaks, fragments alone, and what
+/// Whether all of some values are shallow-empty: texts or titles of white space, breaks, rules, fragments alone, and what
 /// holds no value. A table never is, nor is a value in which a fragment starts.
 pub fn all_shallow_empty(nodes: &[RenderNode]) -> bool
     requires { IsFlat nodes.now }

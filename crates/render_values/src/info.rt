@@ -23,6 +23,8 @@ pub enum RenderInfo {
     },
     /// A line break.
     Break,
+    /// A rule across the block.
+    Rule,
     /// Values in a row.
     Container,
     /// A link to a target.
@@ -96,6 +98,7 @@ impl RenderInfo {
                 title: title.try_clone()?,
             },
             RenderInfo::Break => RenderInfo::Break,
+            RenderInfo::Rule => RenderInfo::Rule,
             RenderInfo::Container => RenderInfo::Container,
             RenderInfo::Link(target) => RenderInfo::Link(target.try_clone()?),
             RenderInfo::Emphasis => RenderInfo::Emphasis,
@@ -147,6 +150,7 @@ fn word(info: &RenderInfo) -> &'static str {
         RenderInfo::Text(_) => "text",
         RenderInfo::Image { .. } => "image",
         RenderInfo::Break => "break",
+        RenderInfo::Rule => "rule",
         RenderInfo::Container => "container",
         RenderInfo::Link(_) => "link",
         RenderInfo::Emphasis => "emphasis",

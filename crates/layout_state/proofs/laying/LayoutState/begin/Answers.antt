@@ -24,6 +24,22 @@ returns-in-Break-clause-narrow g c = λ e. λ tag p.
     c.args.self.now)) c.in-Break.is
     ∙ c.break_line.ensures.narrow e tag p
 
+pub returns-in-Rule-clause-done : goal.returns-in-Rule-clause-done
+unfolding begins
+returns-in-Rule-clause-done g c = on_ok_weaker c.add_rule.result (λ h. λ tag p.
+    ap (λ (i : RenderInfo). begins (marking g.D.TextDecorator.view tag) i (laying_of g.D.Annotation.EqualCopy.seen
+    g.D.TextDecorator.view.held
+    c.args.self.now)) c.in-Rule.is
+    ∙ h tag p) c.add_rule.ensures.done
+
+pub returns-in-Rule-clause-narrow : goal.returns-in-Rule-clause-narrow
+unfolding begins
+returns-in-Rule-clause-narrow g c = λ e. λ tag p.
+    ap (λ (i : RenderInfo). begins (marking g.D.TextDecorator.view tag) i (laying_of g.D.Annotation.EqualCopy.seen
+    g.D.TextDecorator.view.held
+    c.args.self.now)) c.in-Rule.is
+    ∙ c.add_rule.ensures.narrow e tag p
+
 pub returns-in-Emphasis-clause-done : goal.returns-in-Emphasis-clause-done
 unfolding begins
 returns-in-Emphasis-clause-done g c = on_ok_weaker c.start_emphasis.result (λ h. λ tag p.
