@@ -1,4 +1,6 @@
+pub mod CompleteLemmas
 pub mod DocumentLemmas
+pub mod HidingLemmas
 pub mod NodeLemmas
 pub mod NumberLemmas
 pub mod StackLemmas

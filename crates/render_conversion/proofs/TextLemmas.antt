@@ -5,8 +5,9 @@ use Rattle.std.specs.Prelude.{Option}
 use Rattle.std.proofs.lemmas.Bool.Decides.{nat_tests}
 use Rattle.std.proofs.lemmas.Str.{chars-nil}
 use Rattle.text_lines.proofs.Emptiness.{chars_nil}
-use Rattle.render_conversion.specs.Meanings.{imaged, leaf, nothing, or_empty}
-use Rattle.render_conversion.specs.declared.meaning.Meaning.{Meaning}
+use Rattle.render_conversion.specs.Kinds.{leaf, nothing}
+use Rattle.render_conversion.specs.Meanings.{imaged, or_empty}
+use Rattle.render_conversion.specs.declared.kinds.Meaning.{Meaning}
 use Rattle.render_values.specs.declared.info.RenderInfo.TheVariants.{Image}
 
 some_length : (b : ℕ) (bs : List ℕ) → (length (b ∷ bs) == 0) ≡ false

@@ -11,15 +11,16 @@ use Rattle.render_values.specs.Values.{Values, joined, none, value}
 use Rattle.render_values.specs.declared.info.RenderInfo.TheVariants as infos
 use Rattle.render_values.specs.declared.style.RenderStyle.{RenderStyle}
 use Rattle.render_conversion.specs.Heads.{head_of}
+use Rattle.render_conversion.specs.Inner.{children_in, closing, opening, text_value}
 use Rattle.render_conversion.specs.Meanings.{meaning}
-use Rattle.render_conversion.specs.Places.{is_guarded, is_seen}
+use Rattle.render_conversion.specs.Places.{is_guarded, is_shown}
 use Rattle.render_conversion.specs.Styles.{Part, Parts, Styles, parts_of, styles_of}
-use Rattle.render_conversion.specs.declared.meaning.Meaning.{Meaning}
+use Rattle.render_conversion.specs.declared.inner.Inner.{Inner}
+use Rattle.render_conversion.specs.declared.inner.Inner.TheVariants.{Captioned, Children, Quoted, Spaced, TableParts}
+use Rattle.render_conversion.specs.declared.kinds.Meaning.{Meaning}
+use Rattle.render_conversion.specs.declared.options.ConversionOptions.{ConversionOptions}
 use Rattle.render_conversion.specs.declared.place.Place.{Place}
 use Rattle.render_conversion.specs.declared.place.Place.TheVariants.{Flow, Items}
-
-abbrev pub text_value : RenderStyle → List ℕ → Values
-text_value look cs = value (record { info = infos.Text cs; style = look; fragment = None }) none none
 
 -- a text that a rule puts before or after an element's children; in a list it is an item where it shows something
 abbrev pub content_by : Place → RenderStyle → Option (List ℕ) → Values
@@ -33,25 +34,37 @@ content place part = if part.hidden then none else content_by place part.look pa
 abbrev pub around : Place → Parts → (inside : Values) → Values
 around place style inside = joined (content place style.before) (joined inside (content place style.after))
 
--- the value of a node by its meaning, with those of its children, before others
-abbrev pub valued : Meaning → (guarded : Bool) → Kind → Parts → (inside rest : Values) → Values
-valued m guarded kind style inside rest =
-    ended
-    (ending m.condition guarded (head_of m.info style.itself.look kind) (around m.inner style inside))
-    (head_of m.info style.itself.look kind) (around m.inner style inside) rest
+-- what stands in a value, by its style
+abbrev pub inside_of : Inner → Parts → (at : Place → Values) → Values
+inside_of (Children place) style at = around place style (at place)
+inside_of Quoted style at =
+    joined (opening Quoted) (joined (around Flow style (at Flow)) (closing Quoted))
+inside_of Spaced style at =
+    joined (opening Spaced) (joined (around Flow style (at Flow)) (closing Spaced))
+inside_of TableParts style at = children_in TableParts at
+inside_of Captioned style at = children_in Captioned at
 
-abbrev pub value_before : Place → Meaning → Kind → Parts → (inside rest : Values) → Values
-value_before place m kind style inside rest =
-    if is_seen place kind && not style.itself.hidden then valued m (is_guarded place kind) kind style inside rest
+-- the value of a node by its meaning, before others; `at` has those of its children at a place
+abbrev pub valued : Meaning → (guarded : Bool) → Kind → Parts → (at : Place → Values) → (rest : Values) → Values
+valued m guarded kind style at rest =
+    ended
+    (ending m.condition guarded (head_of m.info style.itself.look kind) (inside_of m.inner style at))
+    (head_of m.info style.itself.look kind) (inside_of m.inner style at) rest
+
+abbrev pub value_before : ConversionOptions → Place → Meaning → Kind → Parts → (at : Place → Values) → (rest : Values)
+    → Values
+value_before o place m kind style at rest =
+    if is_shown o place kind && not style.itself.hidden
+    then valued m (is_guarded place kind) kind style at rest
     else rest
 
 -- the values of nodes that stand at a place
-abbrev pub values : Styles → Place → Trees → Values
-values styles place of_trees.none = none
-values styles place (node kind kids rest) =
-    value_before place (meaning place kind kids) kind (parts_of styles kind)
-    (values styles (meaning place kind kids).inner kids) (values styles place rest)
+abbrev pub values : ConversionOptions → Styles → Place → Trees → Values
+values o styles place of_trees.none = none
+values o styles place (node kind kids rest) =
+    value_before o place (meaning o.pages place kind kids) kind (parts_of styles kind)
+    (λ inner. values o styles inner kids) (values o styles place rest)
 
 -- those of a page's document
-abbrev pub document_values : List StyleRule → Forest → Values
-document_values rules f = values (styles_of rules) Flow (trees f (0 ∷ []))
+abbrev pub document_values : ConversionOptions → List StyleRule → Forest → Values
+document_values o rules f = values o (styles_of rules) Flow (trees f (0 ∷ []))

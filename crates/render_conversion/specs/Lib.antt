@@ -1,3 +1,5 @@
+pub mod CompletePageRows
+pub mod CompleteRows
 pub mod Conversion
 pub mod Decorating
 pub mod ElementNames
@@ -5,9 +7,14 @@ pub mod ElementRows
 pub mod Errors
 pub mod Fragments
 pub mod Heads
+pub mod Hiding
+pub mod HidingRows
+pub mod Inner
+pub mod Kinds
 pub mod ListRows
 pub mod Meanings
 pub mod Numbers
+pub mod Options
 pub mod Places
 pub mod RowTrees
 pub mod Seen

@@ -10,6 +10,7 @@ use Rattle.render_values.specs.Values.{Values, none, value}
 use Rattle.render_values.specs.declared.info.RenderInfo.{RenderInfo}
 use Rattle.render_values.specs.declared.info.RenderInfo.TheVariants as infos
 use Rattle.render_conversion.specs.Conversion.{values}
+use Rattle.render_conversion.specs.Options.{default_conversion}
 use Rattle.render_conversion.specs.Styles.{Styles, all_unset}
 use Rattle.render_conversion.specs.declared.place.Place.TheVariants.{Flow}
 
@@ -44,7 +45,7 @@ abbrev pub no_rules : Styles
 no_rules name = all_unset
 
 abbrev pub by_rules : Styles → Trees → Values
-by_rules styles ts = values styles Flow ts
+by_rules styles ts = values default_conversion styles Flow ts
 
 abbrev pub without_rules : Trees → Values
 without_rules ts = by_rules no_rules ts

@@ -1,7 +1,9 @@
 //! Texts that rules put before and after children.
 ghost use Rattle.std.specs.Prelude.{◌≡◌, ◌++◌, OnOk, chars};
 ghost use Rattle.render_values.specs.Arena.{flat};
-ghost use Rattle.render_conversion.specs.Conversion.{content, text_value};
+ghost use Rattle.render_values.specs.Looks.{plain};
+ghost use Rattle.render_conversion.specs.Conversion.{content};
+ghost use Rattle.render_conversion.specs.Inner.{text_value};
 ghost use Rattle.render_conversion.specs.Seen.{seen_part};
 
 use crate::place::Place;
@@ -31,6 +33,17 @@ fn push_text(
     Ok(())
 }
 
+/// A text without a style. The error is allocation failure alone.
+pub(crate) fn push_plain_text(
+    alloc: Global,
+    nodes: &mut Vec<RenderNode>,
+    text: &str,
+) -> Result<(), AllocError>
+    ensures { OnOk result (nodes.new.items ≡ nodes.old.items ++ flat (text_value plain (chars text.now))) }
+{
+    push_text(alloc, nodes, RenderStyle::plain(), text)
+}
+
 /// A text that a rule puts among children that stand at a place, where there is one. The error is allocation failure
 /// alone.
 pub(crate) fn say(
@@ -57,6 +70,8 @@ pub(crate) fn say(
         }
         Place::Nowhere => Ok(()),
         Place::Groups => Ok(()),
+        Place::Feet => Ok(()),
+        Place::Captions => Ok(()),
         Place::Rows => Ok(()),
         Place::Cells => Ok(()),
     }

@@ -4,16 +4,22 @@ ghost use Rattle.tree_forest.specs.Trees.{trees};
 ghost use Rattle.tree_forest.specs.Forest.{children_at, kind_at};
 ghost use Rattle.tree_forest.specs.Orders.{IsForest};
 ghost use Rattle.html_render_dom.specs.Numbers.{number_of};
-ghost use Rattle.render_conversion.specs.Meanings.{cell, element_means, holds, imaged, leaf, linked, meaning, means};
-ghost use Rattle.render_conversion.specs.Meanings.{nothing, or_empty, pictured, row_of};
+ghost use Rattle.render_conversion.specs.Kinds.{means};
+ghost use Rattle.render_conversion.specs.Meanings.{cell, element_means, imaged, linked, meaning, or_empty, plain_row};
+ghost use Rattle.render_conversion.specs.Meanings.{row_of};
 ghost use Rattle.render_conversion.specs.declared.element_names.ElementName.TheVariants as elements;
-ghost use Rattle.render_conversion.specs.declared.place.Place.TheVariants.{Flow};
-ghost use Rattle.render_values.specs.declared.closing.Condition.TheVariants.{AnyValue};
-ghost use Rattle.render_values.specs.declared.info.RenderInfo.TheVariants.{Container};
+ghost use Rattle.render_conversion.specs.declared.inner.Inner.TheVariants.{Children};
+ghost use Rattle.render_conversion.specs.declared.place.Place.TheVariants.{Cells, Flow, Rows};
+ghost use Rattle.render_values.specs.declared.closing.Condition.TheVariants.{Always, AnyValue};
+ghost use Rattle.render_values.specs.declared.info.RenderInfo.TheVariants.{Container, TableGroup, TableRow};
 ghost use Rattle.tree_predicates.specs.Attributes.{value_of};
 
+use crate::complete_rows::complete_row;
 use crate::element_names::{ElementName, element_name};
+use crate::inner::Inner;
+use crate::kinds::{Meaning, copied, holds, leaf, means, nothing, pictured};
 use crate::numbers::{span_of, start_of};
+use crate::options::Pages;
 use crate::place::Place;
 use crate::titles::{is_svg, title_of};
 use html_lexemes::{Attributes, QualName, Text};
@@ -22,64 +28,15 @@ use render_values::{Condition, RenderInfo, Title};
 use std::alloc::{AllocError, Global};
 use tree_predicates::value_of;
 
-/// What a node means.
-#[derive(Debug, Drop)]
-pub struct Meaning {
-    /// The kind of its value.
-    pub info: RenderInfo,
-    /// When it has it.
-    pub condition: Condition,
-    /// Where its children stand.
-    pub inner: Place,
-}
-
-fn means(info: RenderInfo, condition: Condition, inner: Place) -> Meaning
-    ensures { result ≡ means info condition inner }
-{
-    Meaning {
-        info,
-        condition,
-        inner,
-    }
-}
-
-fn nothing() -> Meaning
-    ensures { result ≡ nothing }
-{
-    means(RenderInfo::Nothing, Condition::Never, Place::Nowhere)
-}
-
-fn leaf(info: RenderInfo) -> Meaning
-    ensures { result ≡ leaf info }
-{
-    means(info, Condition::Always, Place::Nowhere)
-}
-
-fn holds(info: RenderInfo) -> Meaning
-    ensures { result ≡ holds info }
-{
-    means(info, Condition::Always, Place::Flow)
-}
-
 fn linked(target: Option<&Text>) -> Result<Meaning, AllocError>
     ensures { IfOk result (λ m. m ≡ linked (option_map (λ t. t.now) target.entry)) }
 {
     match target {
         Some(target) => {
             let info = RenderInfo::Link(target.try_clone()?);
-            Ok(means(info, Condition::AnyShown, Place::Flow))
+            Ok(means(info, Condition::AnyShown, Inner::Children(Place::Flow)))
         }
         None => Ok(holds(RenderInfo::Container)),
-    }
-}
-
-// a copy of a text, or the empty one
-fn copied(alloc: Global, text: Option<&Text>) -> Result<Text, AllocError>
-    ensures { IfOk result (λ copy. copy ≡ or_empty (option_map (λ t. t.now) text.entry)) }
-{
-    match text {
-        Some(text) => text.try_clone(),
-        None => Text::from_str(alloc, ""),
     }
 }
 
@@ -99,19 +56,6 @@ fn imaged(
     Ok(leaf(RenderInfo::Image { source, title }))
 }
 
-fn pictured(alloc: Global, title: Option<Text>) -> Result<Meaning, AllocError>
-    ensures { IfOk result (λ m. m ≡ pictured title) }
-{
-    match title {
-        Some(title) => {
-            let source = copied(alloc, None)?;
-            let title = Title::new(alloc, title)?;
-            Ok(leaf(RenderInfo::Image { source, title }))
-        }
-        None => Ok(nothing()),
-    }
-}
-
 fn word_break(alloc: Global) -> Result<Meaning, AllocError>
     ensures { IfOk result (λ m. m ≡ row_of elements.WordBreak []) }
 {
@@ -125,7 +69,7 @@ fn numbers(attrs: &Attributes) -> Meaning
     means(
         RenderInfo::Numbers(start),
         Condition::AnyValue,
-        Place::Items,
+        Inner::Children(Place::Items),
     )
 }
 
@@ -145,7 +89,7 @@ fn row_of(alloc: Global, name: ElementName, attrs: &Attributes) -> Result<Meanin
         ElementName::Superscript => Ok(means(
             RenderInfo::Superscript,
             Condition::Digits,
-            Place::Flow,
+            Inner::Children(Place::Flow),
         )),
         ElementName::Break => Ok(leaf(RenderInfo::Break)),
         ElementName::Paragraph => Ok(holds(RenderInfo::Block)),
@@ -153,12 +97,20 @@ fn row_of(alloc: Global, name: ElementName, attrs: &Attributes) -> Result<Meanin
         ElementName::Heading(level) => Ok(holds(RenderInfo::Heading(level))),
         ElementName::Quote => Ok(holds(RenderInfo::Quote)),
         ElementName::Preformatted => Ok(holds(RenderInfo::Preformatted)),
-        ElementName::Bullets => Ok(means(RenderInfo::Bullets, Condition::AnyValue, Place::Items)),
+        ElementName::Bullets => Ok(means(
+            RenderInfo::Bullets,
+            Condition::AnyValue,
+            Inner::Children(Place::Items),
+        )),
         ElementName::Numbers => Ok(numbers(attrs)),
         ElementName::Descriptions => Ok(holds(RenderInfo::Descriptions)),
         ElementName::Term => Ok(holds(RenderInfo::Term)),
         ElementName::Details => Ok(holds(RenderInfo::Details)),
-        ElementName::Table => Ok(means(RenderInfo::Table, Condition::AnyCell, Place::Groups)),
+        ElementName::Table => Ok(means(
+            RenderInfo::Table,
+            Condition::AnyCell,
+            Inner::Children(Place::Groups),
+        )),
         ElementName::Other => Ok(holds(RenderInfo::Container)),
     }
 }
@@ -172,8 +124,8 @@ fn cell(attrs: &Attributes) -> Meaning
     })
 }
 
-// an element where values stand in a row
-fn flowing_element(
+// the rows of elements of HTML, and drawings
+fn plain_row(
     alloc: Global,
     dom: &RcDom,
     node: Handle,
@@ -181,7 +133,7 @@ fn flowing_element(
     attrs: &Attributes,
 ) -> Result<Meaning, AllocError>
     requires { IsForest dom.now.forest }
-    ensures { IfOk result (λ m. m ≡ element_means Flow name.now attrs.now
+    ensures { IfOk result (λ m. m ≡ plain_row name.now attrs.now
         (trees dom.now.forest (children_at (number_of node) dom.now.forest))) }
 {
     if is_svg(name, "svg") {
@@ -191,32 +143,81 @@ fn flowing_element(
     row_of(alloc, element_name(name), attrs)
 }
 
+// an element where values stand in a row
+fn flowing_element(
+    alloc: Global,
+    dom: &RcDom,
+    pages: Pages,
+    node: Handle,
+    name: &QualName,
+    attrs: &Attributes,
+) -> Result<Meaning, AllocError>
+    requires { IsForest dom.now.forest }
+    ensures { IfOk result (λ m. m ≡ element_means pages Flow name.now attrs.now
+        (trees dom.now.forest (children_at (number_of node) dom.now.forest))) }
+{
+    match pages {
+        Pages::Plain => plain_row(alloc, dom, node, name, attrs),
+        Pages::Complete => match complete_row(alloc, dom, node, name, attrs)? {
+            Some(meaning) => Ok(meaning),
+            None => plain_row(alloc, dom, node, name, attrs),
+        },
+    }
+}
+
+fn table_group() -> Meaning
+    ensures { result ≡ means TableGroup Always (Children Rows) }
+{
+    means(
+        RenderInfo::TableGroup,
+        Condition::Always,
+        Inner::Children(Place::Rows),
+    )
+}
+
+fn table_row() -> Meaning
+    ensures { result ≡ means TableRow Always (Children Cells) }
+{
+    means(
+        RenderInfo::TableRow,
+        Condition::Always,
+        Inner::Children(Place::Cells),
+    )
+}
+
 fn element_means(
     alloc: Global,
     dom: &RcDom,
+    pages: Pages,
     node: Handle,
     place: Place,
     name: &QualName,
     attrs: &Attributes,
 ) -> Result<Meaning, AllocError>
     requires { IsForest dom.now.forest }
-    ensures { IfOk result (λ m. m ≡ element_means place name.now attrs.now
+    ensures { IfOk result (λ m. m ≡ element_means pages place name.now attrs.now
         (trees dom.now.forest (children_at (number_of node) dom.now.forest))) }
 {
     match place {
-        Place::Groups => Ok(means(RenderInfo::TableGroup, Condition::Always, Place::Rows)),
-        Place::Rows => Ok(means(RenderInfo::TableRow, Condition::Always, Place::Cells)),
+        Place::Groups => Ok(table_group()),
+        Place::Feet => Ok(table_group()),
+        Place::Captions => Ok(holds(RenderInfo::Block)),
+        Place::Rows => Ok(table_row()),
         Place::Cells => Ok(cell(attrs)),
-        Place::Flow => flowing_element(alloc, dom, node, name, attrs),
-        Place::Items => flowing_element(alloc, dom, node, name, attrs),
-        Place::Nowhere => flowing_element(alloc, dom, node, name, attrs),
+        Place::Flow => flowing_element(alloc, dom, pages, node, name, attrs),
+        Place::Items => flowing_element(alloc, dom, pages, node, name, attrs),
+        Place::Nowhere => flowing_element(alloc, dom, pages, node, name, attrs),
     }
 }
 
 fn document() -> Meaning
-    ensures { result ≡ means Container AnyValue Flow }
+    ensures { result ≡ means Container AnyValue (Children Flow) }
 {
-    means(RenderInfo::Container, Condition::AnyValue, Place::Flow)
+    means(
+        RenderInfo::Container,
+        Condition::AnyValue,
+        Inner::Children(Place::Flow),
+    )
 }
 
 /// What a node that stands at a place means; one that isn't there is taken for a document. The error is allocation
@@ -224,16 +225,17 @@ fn document() -> Meaning
 pub(crate) fn meaning_of(
     alloc: Global,
     dom: &RcDom,
+    pages: Pages,
     node: Handle,
     place: Place,
 ) -> Result<Meaning, AllocError>
     requires { IsForest dom.now.forest }
-    ensures { IfOk result (λ m. m ≡ meaning place (kind_at (number_of node) dom.now.forest)
+    ensures { IfOk result (λ m. m ≡ meaning pages place (kind_at (number_of node) dom.now.forest)
         (trees dom.now.forest (children_at (number_of node) dom.now.forest))) }
 {
     match dom.data(node) {
         Some(NodeData::Element { name, attrs, .. }) => {
-            element_means(alloc, dom, node, place, name, attrs)
+            element_means(alloc, dom, pages, node, place, name, attrs)
         }
         Some(NodeData::Text { contents }) => Ok(leaf(RenderInfo::Text(contents.try_clone()?))),
         Some(NodeData::Document) => Ok(document()),

@@ -3,8 +3,10 @@ ghost use Rattle.std.specs.Prelude.{◌≡◌, IsTrue};
 ghost use Rattle.tree_forest.specs.Forest.{kind_at};
 ghost use Rattle.html_render_dom.specs.Numbers.{number_of};
 ghost use Rattle.tree_names.specs.Sets.{are_ascii, words_of};
-ghost use Rattle.render_conversion.specs.Places.{is_element, is_guarded, is_seen};
+ghost use Rattle.render_conversion.specs.Places.{is_element, is_guarded, is_seen, is_shown};
 
+use crate::hiding::is_hidden;
+use crate::options::ConversionOptions;
 use html_render_dom::{Handle, RcDom};
 use tree_names::is_html_one_of;
 
@@ -19,14 +21,18 @@ pub enum Place {
     Items,
     /// In a table: groups of rows.
     Groups,
+    /// In a table: the groups that come last.
+    Feet,
+    /// In a table: its captions.
+    Captions,
     /// In a group of a table: rows.
     Rows,
     /// In a row of a table: cells.
     Cells,
 }
 
-// whether a node is an element of HTML of one of these names
-fn is_element(dom: &RcDom, node: Handle, words: &[&str]) -> bool
+/// Whether a node is an element of HTML of one of these names, words of ASCII characters.
+pub(crate) fn is_element(dom: &RcDom, node: Handle, words: &[&str]) -> bool
     requires { IsTrue (are_ascii (words_of words.now)) }
     ensures { result ≡ is_element (words_of words.now) (kind_at (number_of node) dom.now.forest) }
 {
@@ -36,8 +42,8 @@ fn is_element(dom: &RcDom, node: Handle, words: &[&str]) -> bool
     }
 }
 
-/// Whether a node at a place is looked at.
-pub(crate) fn is_seen(dom: &RcDom, node: Handle, place: Place) -> bool
+// whether a node is looked at, by its place
+fn is_seen(dom: &RcDom, node: Handle, place: Place) -> bool
     ensures { result ≡ is_seen place (kind_at (number_of node) dom.now.forest) }
 {
     match place {
@@ -45,9 +51,18 @@ pub(crate) fn is_seen(dom: &RcDom, node: Handle, place: Place) -> bool
         Place::Flow => true,
         Place::Items => true,
         Place::Groups => is_element(dom, node, &["thead", "tbody"]),
+        Place::Feet => is_element(dom, node, &["tfoot"]),
+        Place::Captions => is_element(dom, node, &["caption"]),
         Place::Rows => is_element(dom, node, &["tr"]),
         Place::Cells => is_element(dom, node, &["td", "th"]),
     }
+}
+
+/// Whether a node at a place is looked at.
+pub(crate) fn is_shown(dom: &RcDom, node: Handle, place: Place, options: ConversionOptions) -> bool
+    ensures { result ≡ is_shown options place (kind_at (number_of node) dom.now.forest) }
+{
+    is_seen(dom, node, place) && !(options.skip_hidden && is_hidden(dom, node))
 }
 
 /// Whether a node at a place is left out where its value is shallow-empty.
@@ -59,6 +74,8 @@ pub(crate) fn is_guarded(dom: &RcDom, node: Handle, place: Place) -> bool
         Place::Flow => false,
         Place::Items => !is_element(dom, node, &["li"]),
         Place::Groups => false,
+        Place::Feet => false,
+        Place::Captions => false,
         Place::Rows => false,
         Place::Cells => false,
     }

@@ -1,4 +1,8 @@
 //! Rows of the table of conversion, computed on its definitions.
+ghost use Rattle.render_conversion.specs.CompletePageRows.{blocks_row, caption_alone_row, captions_row};
+ghost use Rattle.render_conversion.specs.CompletePageRows.{drawn_texts_row, foot_row, icon_row, listings_row, menus_row};
+ghost use Rattle.render_conversion.specs.CompletePageRows.{open_dialog_row, quotation_row, rule_row, span_of_text_row};
+ghost use Rattle.render_conversion.specs.CompletePageRows.{titled_drawing_row, undrawn_row, unread_row};
 ghost use Rattle.render_conversion.specs.ElementRows.{break_row, code_row, comment_row, digits_row, division_row};
 ghost use Rattle.render_conversion.specs.ElementRows.{document_row, drawing_row, drawing_without_title_row};
 ghost use Rattle.render_conversion.specs.ElementRows.{emphasis_row, empty_document_row, foreign_row, headings_row};
@@ -6,6 +10,10 @@ ghost use Rattle.render_conversion.specs.ElementRows.{image_row, image_without_s
 ghost use Rattle.render_conversion.specs.ElementRows.{left_out_row, lone_cell_row, nested_superscript_row, other_row};
 ghost use Rattle.render_conversion.specs.ElementRows.{paragraph_row, quote_row, script_row, strikeout_row, strong_row};
 ghost use Rattle.render_conversion.specs.ElementRows.{superscript_row, two_texts_row, word_break_row};
+ghost use Rattle.render_conversion.specs.HidingRows.{display_none_row, hidden_attribute_row, hidden_body_row};
+ghost use Rattle.render_conversion.specs.HidingRows.{hidden_cell_row, hidden_fragment_row, hidden_list_item_row};
+ghost use Rattle.render_conversion.specs.HidingRows.{important_row, other_attribute_row, other_style_row};
+ghost use Rattle.render_conversion.specs.HidingRows.{shown_hidden_row, until_found_row};
 ghost use Rattle.render_conversion.specs.ListRows.{bullets_row, descriptions_row, empty_link_row};
 ghost use Rattle.render_conversion.specs.ListRows.{empty_link_with_fragment_row, fragment_of_nothing_row};
 ghost use Rattle.render_conversion.specs.ListRows.{greater_start_row, least_start_row, link_round_fragment_row};
@@ -119,4 +127,46 @@ fn rows_of_contents()
     ensures mark_in_item { mark_in_item_row }
     ensures mark_in_list { mark_in_list_row }
     ensures mark_of_break { mark_of_break_row }
+{}
+
+// elements that hide themselves
+fn rows_of_hidden()
+    ensures attribute { hidden_attribute_row }
+    ensures until_found { until_found_row }
+    ensures display_none { display_none_row }
+    ensures important { important_row }
+    ensures other_style { other_style_row }
+    ensures other_attribute { other_attribute_row }
+    ensures body { hidden_body_row }
+    ensures fragment { hidden_fragment_row }
+    ensures item { hidden_list_item_row }
+    ensures cell { hidden_cell_row }
+    ensures shown { shown_hidden_row }
+{}
+
+// elements of complete pages
+fn rows_of_complete_pages()
+    ensures unread { unread_row }
+    ensures open_dialog { open_dialog_row }
+    ensures rule { rule_row }
+    ensures blocks { blocks_row }
+    ensures menus { menus_row }
+    ensures listings { listings_row }
+    ensures quotation { quotation_row }
+{}
+
+// their tables
+fn rows_of_complete_tables()
+    ensures foot { foot_row }
+    ensures captions { captions_row }
+    ensures caption_alone { caption_alone_row }
+{}
+
+// their drawings
+fn rows_of_drawings()
+    ensures undrawn { undrawn_row }
+    ensures drawn_texts { drawn_texts_row }
+    ensures icon { icon_row }
+    ensures titled_drawing { titled_drawing_row }
+    ensures span_of_text { span_of_text_row }
 {}

@@ -3,6 +3,7 @@ ghost use Rattle.std.specs.Prelude.{◌≡◌, ◌∷◌, ◌++◌, [], MatchOpt
 ghost use Rattle.html_render_dom.specs.ChildNodes.{children_left};
 ghost use Rattle.render_conversion.specs.Turns.{visits};
 
+use crate::inner::Inner;
 use crate::place::Place;
 use html_render_dom::{ChildNodes, Handle};
 use render_values::Opened;
@@ -18,6 +19,10 @@ pub(crate) enum Turn<'a> {
     Row(Handle, ChildNodes<'a>, Place),
     /// The text that a rule puts after a node's children, which stand at a place.
     After(Handle, Place),
+    /// The text after all else in a value.
+    Closing(Inner),
+    /// The table of a node, after its captions.
+    Table(Handle),
     /// All that stands after a value is in it.
     Close(Opened),
 }

@@ -9,6 +9,6 @@ use Rattle.render_conversion.proofs.meaning.meaning_of.Goals as goal
 pub returns-in-None : goal.returns-in-None
 returns-in-None c =
     c.document-in-None.ensures
-    ∙ ap (λ k. meaning c.args.place k
+    ∙ ap (λ k. meaning c.args.pages c.args.place k
     (trees c.args.dom.now.forest (children_at (number_of c.args.node) c.args.dom.now.forest)))
     (as_document (number_of c.args.node) c.args.dom.now.forest c.in-None.ensures.stands)

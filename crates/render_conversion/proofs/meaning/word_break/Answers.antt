@@ -1,6 +1,6 @@
 use Rattle.std.proofs.Common.{◌∙◌, ap}
 use Rattle.std.specs.Str.{chars}
-use Rattle.render_conversion.specs.Meanings.{leaf}
+use Rattle.render_conversion.specs.Kinds.{leaf}
 use Rattle.render_values.specs.declared.info.RenderInfo.TheVariants.{Text}
 use Rattle.render_conversion.proofs.meaning.word_break.Goals as goal
 

@@ -7,8 +7,8 @@ use Rattle.render_conversion.proofs.walk.read_all.Given as goal
 -- with what is left the nodes come to what they came to at first
 abbrev pub invariant-turns : goal.invariant-turns
 invariant-turns l = record {
-  same : later (styles_of l.rules) l.dom.forest l.turns l.nodes.items
-      ≡ later (styles_of l.rules) l.dom.forest l.fn.turns l.fn.nodes.items;
+  same : later l.options (styles_of l.rules) l.dom.forest l.turns l.nodes.items
+      ≡ later l.options (styles_of l.rules) l.dom.forest l.fn.turns l.fn.nodes.items;
   opened : AreOpen l.nodes.items l.turns;
   flat : IsFlat l.nodes.items;
 }

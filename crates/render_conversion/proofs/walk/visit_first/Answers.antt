@@ -10,7 +10,7 @@ visit-requires-clause-ordered c =
 
 pub returns : goal.returns
 returns c =
-    row_done c.visit.result (styles_of c.args.rules.now) c.args.dom.now.forest c.args.node
+    row_done c.visit.result c.args.options (styles_of c.args.rules.now) c.args.dom.now.forest c.args.node
     (children_left c.args.others) c.args.place c.args.turns.now c.push_visits.new.turns c.visit.new.turns
     c.args.nodes.now.items c.visit.new.nodes.items
     (λ n ns. c.a_tree_goes_one_step_on.ensures.first c.args.dom.now.forest n ns c.requires.forest)

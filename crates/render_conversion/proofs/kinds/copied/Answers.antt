@@ -2,7 +2,7 @@ use Rattle.std.proofs.Common.{◌≡◌, IfOk, ◌∙◌, ap, sym, subst}
 use Rattle.std.specs.Option.{option_map}
 use Rattle.std.proofs.lemmas.Str.{chars-nil}
 use Rattle.render_conversion.specs.Meanings.{or_empty}
-use Rattle.render_conversion.proofs.meaning.copied.Goals as goal
+use Rattle.render_conversion.proofs.kinds.copied.Goals as goal
 
 pub returns-in-None : goal.returns-in-None
 returns-in-None c =
