@@ -18,6 +18,7 @@ use Rattle.page_config.specs.PageAnswers.{HasAnswer, IsAnswerOf, PageAnswer, fai
 use Rattle.page_config.specs.Settings.{PageSetting}
 use Rattle.page_reading.specs.PageTrees.{IsTreeOfBytes}
 use Rattle.render_conversion.specs.Conversion.{document_values}
+use Rattle.render_conversion.specs.declared.options.ConversionOptions.{ConversionOptions}
 use Rattle.render_values.specs.Values.{Values}
 use Rattle.dom_styles.specs.declared.rules.StyleRule.{StyleRule}
 use Rattle.text_block_renderer.specs.PlainText.{plain_closes, plain_marking}
@@ -33,9 +34,9 @@ HasItsTree = (table : References) → KnowsEscapes table → (title : Option (Li
     forest ≡ article_tree title blocks
 
 abbrev pub HasItsValues : Type 0
-HasItsValues = (o : Options) (rules : List StyleRule) (title : Option (List ℕ)) (blocks : Blocks) →
+HasItsValues = (conversion : ConversionOptions) (o : Options) (rules : List StyleRule) (title : Option (List ℕ)) (blocks : Blocks) →
     AreRulesOf o.decorates rules → first_fault title blocks ≡ None → NumbersFit blocks →
-    document_values rules (article_tree title blocks) ≡ page_values o blocks
+    document_values conversion rules (article_tree title blocks) ≡ page_values o blocks
 
 abbrev pub IsLaid : Type 0
 IsLaid = (c : Setting (Unit {0})) (decorates : Bool) (width : ℕ) (blocks : Blocks) →
@@ -58,7 +59,8 @@ module _ (tree : HasItsTree) (values : HasItsValues) (laid : IsLaid) (c : PageSe
       tree c.table is.table title blocks bytes h.page.forest h.page.quirks
       w.faultless w.utf8 w.text
       (subst (λ p. IsTreeOfBytes c.table p bytes h.page.forest h.page.quirks) is.parsing h.page.tree) in
-      sym h.page.same ∙ ap (document_values c.rules) same ∙ values o c.rules title blocks is.rules w.faultless w.numbers
+      sym h.page.same ∙ ap (document_values c.conversion c.rules) same
+      ∙ values c.conversion o c.rules title blocks is.rules w.faultless w.numbers
 
   laid_at : (width : ℕ) → 0 < width → AreLaidAs c.rendering width (shown_lines o width blocks) (page_values o blocks)
   laid_at width wide =

@@ -19,6 +19,7 @@ use Rattle.document_laws.specs.Contents.{in_no_namespace}
 use Rattle.render_conversion.specs.Conversion.{value_before, values}
 use Rattle.render_conversion.specs.Meanings.{meaning}
 use Rattle.render_conversion.specs.Styles.{Parts, Styles, all_unset}
+use Rattle.render_conversion.specs.declared.options.ConversionOptions.{ConversionOptions}
 use Rattle.render_conversion.specs.declared.place.Place.{Place}
 use Rattle.render_conversion.specs.declared.place.Place.TheVariants.{Flow}
 use Rattle.render_values.specs.Emptiness.{all_empty, holds_none, is_empty_value}
@@ -91,22 +92,23 @@ shows_nothing o d trailing (link target kids rest) h =
 -- ---- elements
 
 -- the value of a node, by its style
-abbrev pub by_style : Place → Kind → Trees → (inside rest : Values) → Parts → Values
-by_style place kind kids inside rest style = value_before place (meaning place kind kids) kind style inside rest
+abbrev pub by_style : ConversionOptions → Place → Kind → Trees → (inside rest : Values) → Parts → Values
+by_style conversion place kind kids inside rest style =
+    value_before conversion place (meaning conversion.pages place kind kids) kind style (λ _. inside) rest
 
-marked_by : (style : Style) (mark : List ℕ) (kids : Trees) (inside rest : Values) →
-    by_style Flow (kind_of (style_name style) []) kids inside rest (style_by mark)
+marked_by : (conversion : ConversionOptions) (style : Style) (mark : List ℕ) (kids : Trees) (inside rest : Values) →
+    by_style conversion Flow (kind_of (style_name style) []) kids inside rest (style_by mark)
     ≡ value (plain_head (style_info style)) (marked mark inside) rest
-marked_by bold [] kids inside rest = refl
-marked_by bold (c ∷ cs) kids inside rest = refl
-marked_by italic [] kids inside rest = refl
-marked_by italic (c ∷ cs) kids inside rest = refl
-marked_by emphasis [] kids inside rest = refl
-marked_by emphasis (c ∷ cs) kids inside rest = refl
-marked_by code [] kids inside rest = refl
-marked_by code (c ∷ cs) kids inside rest = refl
-marked_by strong [] kids inside rest = refl
-marked_by strong (c ∷ cs) kids inside rest = refl
+marked_by conversion bold [] kids inside rest = refl
+marked_by conversion bold (c ∷ cs) kids inside rest = refl
+marked_by conversion italic [] kids inside rest = refl
+marked_by conversion italic (c ∷ cs) kids inside rest = refl
+marked_by conversion emphasis [] kids inside rest = refl
+marked_by conversion emphasis (c ∷ cs) kids inside rest = refl
+marked_by conversion code [] kids inside rest = refl
+marked_by conversion code (c ∷ cs) kids inside rest = refl
+marked_by conversion strong [] kids inside rest = refl
+marked_by conversion strong (c ∷ cs) kids inside rest = refl
 
 abbrev href : List ℕ → List Attribute
 href target = in_no_namespace (codes "href") target ∷ []
@@ -122,55 +124,56 @@ abbrev linking : List ℕ → (rest inside : Values) → Values
 linking target rest inside = let head = plain_head (infos.Link target) in
     ended (ending AnyShown false head inside) head inside rest
 
-linked_by : (target : List ℕ) (kids : Trees) (inside rest : Values) →
-    by_style Flow (kind_of (codes "a") (href target)) kids inside rest all_unset
+linked_by : (conversion : ConversionOptions) (target : List ℕ) (kids : Trees) (inside rest : Values) →
+    by_style conversion Flow (kind_of (codes "a") (href target)) kids inside rest all_unset
     ≡ link_before (all_empty inside) target inside rest
-linked_by target kids inside rest =
+linked_by conversion target kids inside rest =
     ap (linking target rest) (joined_none inside) ∙ where_shown (all_empty inside) target inside rest
 
-module _ (o : Options) (s : Styles) (seen : (name : List ℕ) → s name ≡ style_seen o.decorates name) where
+module _ (conversion : ConversionOptions) (o : Options) (s : Styles)
+    (seen : (name : List ℕ) → s name ≡ style_seen o.decorates name) where
   pub unset_at : (name : List ℕ) → style_seen true name ≡ all_unset → s name ≡ all_unset
   unset_at name e = seen name ∙ unset_by name e o.decorates
 
   marks_at : (style : Style) → s (style_name style) ≡ style_by (mark_of o style)
   marks_at style = seen (style_name style) ∙ marks_are_seen o.decorates style
 
-  span_values : (style : Style) (kids rest : Trees) → values s Flow (node (kind_of (style_name style) []) kids rest)
-      ≡ value (plain_head (style_info style)) (marked (mark_of o style) (values s Flow kids)) (values s Flow rest)
+  span_values : (style : Style) (kids rest : Trees) → values conversion s Flow (node (kind_of (style_name style) []) kids rest)
+      ≡ value (plain_head (style_info style)) (marked (mark_of o style) (values conversion s Flow kids)) (values conversion s Flow rest)
   span_values bold kids rest =
-      ap (by_style Flow (kind_of (codes "b") []) kids (values s Flow kids) (values s Flow rest)) (marks_at bold)
-      ∙ marked_by bold (mark_of o bold) kids (values s Flow kids) (values s Flow rest)
+      ap (by_style conversion Flow (kind_of (codes "b") []) kids (values conversion s Flow kids) (values conversion s Flow rest)) (marks_at bold)
+      ∙ marked_by conversion bold (mark_of o bold) kids (values conversion s Flow kids) (values conversion s Flow rest)
   span_values italic kids rest =
-      ap (by_style Flow (kind_of (codes "i") []) kids (values s Flow kids) (values s Flow rest)) (marks_at italic)
-      ∙ marked_by italic (mark_of o italic) kids (values s Flow kids) (values s Flow rest)
+      ap (by_style conversion Flow (kind_of (codes "i") []) kids (values conversion s Flow kids) (values conversion s Flow rest)) (marks_at italic)
+      ∙ marked_by conversion italic (mark_of o italic) kids (values conversion s Flow kids) (values conversion s Flow rest)
   span_values emphasis kids rest =
-      ap (by_style Flow (kind_of (codes "em") []) kids (values s Flow kids) (values s Flow rest)) (marks_at emphasis)
-      ∙ marked_by emphasis (mark_of o emphasis) kids (values s Flow kids) (values s Flow rest)
+      ap (by_style conversion Flow (kind_of (codes "em") []) kids (values conversion s Flow kids) (values conversion s Flow rest)) (marks_at emphasis)
+      ∙ marked_by conversion emphasis (mark_of o emphasis) kids (values conversion s Flow kids) (values conversion s Flow rest)
   span_values code kids rest =
-      ap (by_style Flow (kind_of (codes "code") []) kids (values s Flow kids) (values s Flow rest)) (marks_at code)
-      ∙ marked_by code (mark_of o code) kids (values s Flow kids) (values s Flow rest)
+      ap (by_style conversion Flow (kind_of (codes "code") []) kids (values conversion s Flow kids) (values conversion s Flow rest)) (marks_at code)
+      ∙ marked_by conversion code (mark_of o code) kids (values conversion s Flow kids) (values conversion s Flow rest)
   span_values strong kids rest =
-      ap (by_style Flow (kind_of (codes "strong") []) kids (values s Flow kids) (values s Flow rest)) (marks_at strong)
-      ∙ marked_by strong (mark_of o strong) kids (values s Flow kids) (values s Flow rest)
+      ap (by_style conversion Flow (kind_of (codes "strong") []) kids (values conversion s Flow kids) (values conversion s Flow rest)) (marks_at strong)
+      ∙ marked_by conversion strong (mark_of o strong) kids (values conversion s Flow kids) (values conversion s Flow rest)
 
   break_values : (rest : Trees) →
-      values s Flow (node (kind_of (codes "br") []) of_trees.none rest)
-      ≡ value (plain_head infos.Break) none (values s Flow rest)
+      values conversion s Flow (node (kind_of (codes "br") []) of_trees.none rest)
+      ≡ value (plain_head infos.Break) none (values conversion s Flow rest)
   break_values rest =
-      ap (by_style Flow (kind_of (codes "br") []) of_trees.none none (values s Flow rest)) (unset_at (codes "br") refl)
+      ap (by_style conversion Flow (kind_of (codes "br") []) of_trees.none none (values conversion s Flow rest)) (unset_at (codes "br") refl)
 
   link_values : (target : List ℕ) (kids rest : Trees) →
-      values s Flow (node (kind_of (codes "a") (href target)) kids rest)
-      ≡ link_before (all_empty (values s Flow kids)) target (values s Flow kids) (values s Flow rest)
+      values conversion s Flow (node (kind_of (codes "a") (href target)) kids rest)
+      ≡ link_before (all_empty (values conversion s Flow kids)) target (values conversion s Flow kids) (values conversion s Flow rest)
   link_values target kids rest =
-      ap (by_style Flow (kind_of (codes "a") (href target)) kids (values s Flow kids) (values s Flow rest))
+      ap (by_style conversion Flow (kind_of (codes "a") (href target)) kids (values conversion s Flow kids) (values conversion s Flow rest))
       (unset_at (codes "a") refl)
-      ∙ linked_by target kids (values s Flow kids) (values s Flow rest)
+      ∙ linked_by conversion target kids (values conversion s Flow kids) (values conversion s Flow rest)
 
   -- ---- inlines without a fault
 
   pub inlines_valued : (d : ℕ) (linked trailing : Bool) (is : Inlines) → fault_of_inlines d linked trailing is ≡ None →
-      values s Flow (trees_of_content (content_of_inlines is)) ≡ values_of_inlines o is
+      values conversion s Flow (trees_of_content (content_of_inlines is)) ≡ values_of_inlines o is
   inlines_valued d linked trailing no_inlines h = refl
   inlines_valued d linked trailing (words [] rest) h = cc
   inlines_valued d linked true (words (c ∷ cs) rest) h = cc
@@ -185,7 +188,7 @@ module _ (o : Options) (s : Styles) (seen : (name : List ℕ) → s name ≡ sty
       let b = span_passed d linked trailing style kids rest h in
       let later = trees_of_content (content_of_inlines rest) in
       span_values style (trees_of_content (content_of_inlines kids)) later
-      ∙ ap (λ vs. value (plain_head (style_info style)) (marked (mark_of o style) vs) (values s Flow later))
+      ∙ ap (λ vs. value (plain_head (style_info style)) (marked (mark_of o style) vs) (values conversion s Flow later))
       (inlines_valued (suc d) linked false kids b.0)
       ∙ ap (value (plain_head (style_info style)) (marked (mark_of o style) (values_of_inlines o kids)))
       (inlines_valued d linked false rest b.1)
@@ -194,8 +197,8 @@ module _ (o : Options) (s : Styles) (seen : (name : List ℕ) → s name ≡ sty
       let later = trees_of_content (content_of_inlines rest) in
       let inside = values_of_inlines o kids in
       link_values target (trees_of_content (content_of_inlines kids)) later
-      ∙ ap (λ vs. link_before (all_empty vs) target vs (values s Flow later))
+      ∙ ap (λ vs. link_before (all_empty vs) target vs (values conversion s Flow later))
       (inlines_valued (suc d) true false kids b.1.1.0)
-      ∙ ap (λ shallow. link_before shallow target inside (values s Flow later))
+      ∙ ap (λ shallow. link_before shallow target inside (values conversion s Flow later))
       (shows_nothing o (suc d) false kids b.1.1.0)
       ∙ ap (link_before (all_shallow o kids) target inside) (inlines_valued d linked false rest b.1.1.1)

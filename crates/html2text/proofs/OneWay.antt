@@ -17,6 +17,7 @@ pub asked_alike : (asked : Asked) (names : References) (c d : PageSetting (Unit 
 asked_alike asked names c d p q = record {
   table = p.table ∙ sym q.table;
   parsing = p.parsing ∙ sym q.parsing;
+  conversion = p.conversion ∙ sym q.conversion;
   rules = p.rules ∙ sym q.rules;
   options = p.options ∙ sym q.options;
   min_wrap = p.min_wrap ∙ sym q.min_wrap;

@@ -44,6 +44,7 @@ bare_is : (asked : Asked) (names : References) → is_decorated asked ≡ false 
 bare_is asked names none = record {
   table = refl;
   parsing = refl;
+  conversion = refl;
   rules = ap (λ marked. if marked then decorating_rules else []) (sym none);
   options = ap (targets_by asked) (sym none);
   min_wrap = refl;
@@ -70,6 +71,7 @@ sharing_is asked names c rich decorate plain =
     record {
       table = plain.table;
       parsing = plain.parsing;
+      conversion = plain.conversion;
       rules = plain.rules ∙ ap (λ marked. if marked then decorating_rules else []) marked;
       options = ap (λ (o : RenderOptions). record o { shared_footnotes = asked.shared_footnotes }) plain.options
           ∙ ap (targets_by asked) marked;

@@ -12,6 +12,7 @@ use Rattle.page_config.specs.PageAnswers.{HasAnswer, HasText, fail, too_narrow}
 use Rattle.page_config.specs.RichPages.{HasRichAnswer, HasRichText}
 use Rattle.page_config.specs.Settings.{PageSetting}
 use Rattle.render_conversion.specs.Decorating.{SeenRule, decorating_rules, seen_rule}
+use Rattle.render_conversion.specs.Options.{default_conversion}
 use Rattle.block_trait.specs.Defaults.{default_options}
 
 -- known bytes grow by a text of this kind, in UTF-8
@@ -41,6 +42,7 @@ asked_rules asked = if is_decorated asked then decorating_rules else []
 pub record IsSetting (asked : Asked) (names : References) (c : PageSetting (Unit {0})) : Type 0 where
   pub table : c.table ≡ names
   pub parsing : c.parsing ≡ default_parse
+  pub conversion : c.conversion ≡ default_conversion
   pub rules : map seen_rule c.rules ≡ asked_rules asked
   pub options : c.rendering.options ≡ record default_options {
     include_link_footnotes = is_decorated asked || asked.footnotes;

@@ -8,6 +8,7 @@ use Rattle.tree_forest.specs.Forest.{Forest}
 use Rattle.render_conversion.specs.Conversion.{document_values, values}
 use Rattle.render_conversion.specs.Decorating.{SeenRule, seen_rule}
 use Rattle.render_conversion.specs.Styles.{Part, Parts, Styles, styles_of}
+use Rattle.render_conversion.specs.declared.options.ConversionOptions.{ConversionOptions}
 use Rattle.render_conversion.specs.declared.place.Place.TheVariants.{Flow}
 use Rattle.dom_styles.specs.Cascade.{cascade}
 use Rattle.dom_styles.specs.Styles.{background_of, colour_of, content_of, declared_at, declared_by, display_of}
@@ -74,6 +75,6 @@ styles_alike : (rules other : List StyleRule) → map seen_rule rules ≡ map se
 styles_alike rules other e =
     by_seen rules ∙ ap (λ seen. styles_from (λ name place. seen_at name place seen)) e ∙ sym (by_seen other)
 
-pub values_alike : (rules other : List StyleRule) (f : Forest) → map seen_rule rules ≡ map seen_rule other
-    → document_values rules f ≡ document_values other f
-values_alike rules other f e = ap (λ styles. values styles Flow (trees f (0 ∷ []))) (styles_alike rules other e)
+pub values_alike : (o : ConversionOptions) (rules other : List StyleRule) (f : Forest)
+    → map seen_rule rules ≡ map seen_rule other → document_values o rules f ≡ document_values o other f
+values_alike o rules other f e = ap (λ styles. values o styles Flow (trees f (0 ∷ []))) (styles_alike rules other e)

@@ -1,6 +1,7 @@
 -- What contracts see of how a page is rendered.
 use Rattle.std.specs.Prelude.{◌≡◌, List, ◌++◌, map}
 use Rattle.render_conversion.specs.Decorating.{decorating_rules, seen_rule}
+use Rattle.render_conversion.specs.declared.options.ConversionOptions.{ConversionOptions}
 use Rattle.block_trait.specs.declared.options.RenderOptions.{RenderOptions}
 use Rattle.dom_styles.specs.declared.rules.StyleRule.{StyleRule}
 use Rattle.html_render_tree.specs.PageLines.{Setting}
@@ -17,6 +18,9 @@ setting_of view c = record {
 
 abbrev pub rules_of : {D T : Type 0} → RenderConfig D T → List StyleRule
 rules_of c = c.rules.items
+
+abbrev pub conversion_of : {D T : Type 0} → RenderConfig D T → ConversionOptions
+conversion_of c = c.conversion
 
 -- the same with other options
 abbrev pub with_options : {H : Type 0} → Setting H → RenderOptions → Setting H

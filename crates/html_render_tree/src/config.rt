@@ -15,7 +15,7 @@ use block_trait::{ImageRenderMode, RenderOptions};
 use dom_styles::StyleRule;
 use html_render_dom::RcDom;
 use layout_laws::annotations_change_no_page;
-use render_conversion::{RenderError, decorating_rules};
+use render_conversion::{ConversionOptions, Pages, RenderError, decorating_rules};
 use render_values::RenderTree;
 use std::alloc::Global;
 use text_block_renderer::TextRenderer;
@@ -34,11 +34,13 @@ pub struct RenderConfig<D: TextDecorator> {
     min_wrap_width: usize,
     /// Rules of style, in order.
     rules: Vec<StyleRule>,
+    conversion: ConversionOptions,
 }
 
 impl<D: TextDecorator + Drop> RenderConfig<D> {
     ghost use Rattle.block_renderer.specs.Seen.{IsTagging, marking, sub_of, tags_seen};
     ghost use Rattle.render_conversion.specs.Conversion.{document_values};
+    ghost use Rattle.render_conversion.specs.Options.{default_conversion, pages_of};
     ghost use Rattle.render_conversion.specs.declared.error.RenderError.TheVariants as errors;
     ghost use Rattle.render_values.specs.Values.{none};
     ghost use Rattle.block_trait.specs.Defaults.{default_options};
@@ -51,19 +53,22 @@ impl<D: TextDecorator + Drop> RenderConfig<D> {
     ghost use Rattle.std.specs.Option.{option_map};
     ghost use Rattle.text_block_renderer.specs.Parts.{depth_of};
     ghost use Rattle.text_block_renderer.specs.SeenParts.{parts_of};
-    ghost use Rattle.html_render_tree.specs.Settings.{IsDecorated, rules_of, setting_of, with_options};
+    ghost use Rattle.html_render_tree.specs.Settings.{IsDecorated, conversion_of, rules_of, setting_of};
+    ghost use Rattle.html_render_tree.specs.Settings.{with_options};
 
     /// As text is rendered by a decorator: no rules of style, and the options as they are by default.
     pub fn with_decorator(alloc: Global, decorator: D) -> RenderConfig<D>
         ensures setting { setting_of D.view result
             ≡ record { options = default_options; min_wrap = 3; held = D.view.sub (D.view.held decorator) } }
         ensures rules { rules_of result ≡ [] }
+        ensures conversion { conversion_of result ≡ default_conversion }
     {
         RenderConfig {
             decorator,
             options: RenderOptions::default(),
             min_wrap_width: MIN_WRAP_WIDTH,
             rules: Vec::new(alloc),
+            conversion: ConversionOptions::default(),
         }
     }
 
@@ -73,6 +78,7 @@ impl<D: TextDecorator + Drop> RenderConfig<D> {
           options = record (setting_of D.view self).options { allow_width_overflow = true };
         } }
         ensures rules { rules_of result ≡ rules_of self }
+        ensures conversion { conversion_of result ≡ conversion_of self }
     {
         let mut config = self;
         config.options.allow_width_overflow = true;
@@ -85,6 +91,7 @@ impl<D: TextDecorator + Drop> RenderConfig<D> {
           options = record (setting_of D.view self).options { include_link_footnotes = include };
         } }
         ensures rules { rules_of result ≡ rules_of self }
+        ensures conversion { conversion_of result ≡ conversion_of self }
     {
         let mut config = self;
         config.options.include_link_footnotes = include;
@@ -97,6 +104,7 @@ impl<D: TextDecorator + Drop> RenderConfig<D> {
         ensures setting { setting_of D.view result ≡ with_options (setting_of D.view self)
             (record (setting_of D.view self).options { shared_footnotes = shared }) }
         ensures rules { rules_of result ≡ rules_of self }
+        ensures conversion { conversion_of result ≡ conversion_of self }
     {
         let mut config = self;
         config.options.shared_footnotes = shared;
@@ -108,6 +116,7 @@ impl<D: TextDecorator + Drop> RenderConfig<D> {
         ensures setting { setting_of D.view result ≡ with_options (setting_of D.view self)
             (record (setting_of D.view self).options { pad_block_width = true }) }
         ensures rules { rules_of result ≡ rules_of self }
+        ensures conversion { conversion_of result ≡ conversion_of self }
     {
         let mut config = self;
         config.options.pad_block_width = true;
@@ -120,12 +129,14 @@ impl<D: TextDecorator + Drop> RenderConfig<D> {
         ensures setting { setting_of D.view result ≡ with_options (setting_of D.view self)
             (record (setting_of D.view self).options { wrap_width = Some columns }) }
         ensures rules { rules_of result ≡ rules_of self }
+        ensures conversion { conversion_of result ≡ conversion_of self }
     {
         let RenderConfig {
             decorator,
             options,
             min_wrap_width,
             rules,
+            conversion,
         } = self;
         RenderConfig {
             decorator,
@@ -135,6 +146,7 @@ impl<D: TextDecorator + Drop> RenderConfig<D> {
             },
             min_wrap_width,
             rules,
+            conversion,
         }
     }
 
@@ -144,6 +156,7 @@ impl<D: TextDecorator + Drop> RenderConfig<D> {
         ensures setting { setting_of D.view result ≡ with_options (setting_of D.view self)
             (record (setting_of D.view self).options { raw = raw; draw_borders = false }) }
         ensures rules { rules_of result ≡ rules_of self }
+        ensures conversion { conversion_of result ≡ conversion_of self }
     {
         let mut config = self;
         config.options.raw = raw;
@@ -156,6 +169,7 @@ impl<D: TextDecorator + Drop> RenderConfig<D> {
         ensures setting { setting_of D.view result ≡ with_options (setting_of D.view self)
             (record (setting_of D.view self).options { draw_borders = false }) }
         ensures rules { rules_of result ≡ rules_of self }
+        ensures conversion { conversion_of result ≡ conversion_of self }
     {
         let mut config = self;
         config.options.draw_borders = false;
@@ -167,6 +181,7 @@ impl<D: TextDecorator + Drop> RenderConfig<D> {
         ensures setting { setting_of D.view result ≡ with_options (setting_of D.view self)
             (record (setting_of D.view self).options { fence_tables = true }) }
         ensures rules { rules_of result ≡ rules_of self }
+        ensures conversion { conversion_of result ≡ conversion_of self }
     {
         let mut config = self;
         config.options.fence_tables = true;
@@ -178,6 +193,7 @@ impl<D: TextDecorator + Drop> RenderConfig<D> {
         ensures setting { setting_of D.view result ≡ with_options (setting_of D.view self)
             (record (setting_of D.view self).options { wrap_links = false }) }
         ensures rules { rules_of result ≡ rules_of self }
+        ensures conversion { conversion_of result ≡ conversion_of self }
     {
         let mut config = self;
         config.options.wrap_links = false;
@@ -189,6 +205,7 @@ impl<D: TextDecorator + Drop> RenderConfig<D> {
         ensures setting { setting_of D.view result ≡ with_options (setting_of D.view self)
             (record (setting_of D.view self).options { use_unicode_strikeout = use_unicode }) }
         ensures rules { rules_of result ≡ rules_of self }
+        ensures conversion { conversion_of result ≡ conversion_of self }
     {
         let mut config = self;
         config.options.use_unicode_strikeout = use_unicode;
@@ -200,12 +217,14 @@ impl<D: TextDecorator + Drop> RenderConfig<D> {
         ensures setting { setting_of D.view result ≡ with_options (setting_of D.view self)
             (record (setting_of D.view self).options { img_mode = img_mode }) }
         ensures rules { rules_of result ≡ rules_of self }
+        ensures conversion { conversion_of result ≡ conversion_of self }
     {
         let RenderConfig {
             decorator,
             options,
             min_wrap_width,
             rules,
+            conversion,
         } = self;
         RenderConfig {
             decorator,
@@ -215,6 +234,7 @@ impl<D: TextDecorator + Drop> RenderConfig<D> {
             },
             min_wrap_width,
             rules,
+            conversion,
         }
     }
 
@@ -224,10 +244,51 @@ impl<D: TextDecorator + Drop> RenderConfig<D> {
         ensures setting { setting_of D.view result
             ≡ record (setting_of D.view self) { min_wrap = columns } }
         ensures rules { rules_of result ≡ rules_of self }
+        ensures conversion { conversion_of result ≡ conversion_of self }
     {
         let mut config = self;
         config.min_wrap_width = columns;
         config
+    }
+
+    /// Whether elements that hide themselves are left out, with all that stands in them: by an attribute `hidden` whose
+    /// value isn't `until-found`, or by a declaration `display: none` in their attribute `style`. The elements `html`
+    /// and `body` never hide themselves. By default all are shown.
+    pub fn skip_hidden(self, skip: bool) -> RenderConfig<D>
+        ensures setting { setting_of D.view result ≡ setting_of D.view self }
+        ensures rules { rules_of result ≡ rules_of self }
+        ensures conversion { conversion_of result ≡ record (conversion_of self) { skip_hidden = skip } }
+    {
+        let mut config = self;
+        config.conversion.skip_hidden = skip;
+        config
+    }
+
+    /// Whether the rows of complete pages stand before the others of the table of conversion: a rule for `hr`, captions
+    /// and feet of tables, quotation marks for `q`, the texts of drawings, blocks that stand in lines of their own, and
+    /// nothing for what browsers don't render. By default they don't.
+    pub fn complete(self, complete: bool) -> RenderConfig<D>
+        ensures setting { setting_of D.view result ≡ setting_of D.view self }
+        ensures rules { rules_of result ≡ rules_of self }
+        ensures conversion { conversion_of result ≡ record (conversion_of self) { pages = pages_of complete } }
+    {
+        let RenderConfig {
+            decorator,
+            options,
+            min_wrap_width,
+            rules,
+            conversion,
+        } = self;
+        RenderConfig {
+            decorator,
+            options,
+            min_wrap_width,
+            rules,
+            conversion: ConversionOptions {
+                pages: Pages::of(complete),
+                ..conversion
+            },
+        }
     }
 
     /// What a page is rendered by, but for the least width of text, the rules of style and the decorator.
@@ -249,6 +310,7 @@ impl<D: TextDecorator + Drop> RenderConfig<D> {
     pub fn do_decorate(self, alloc: Global) -> Result<RenderConfig<D>, RenderError>
         ensures setting { IfOk result (λ c. setting_of D.view c ≡ setting_of D.view self) }
         ensures rules { IfOk result (λ c. IsDecorated (rules_of self) (rules_of c)) }
+        ensures conversion { IfOk result (λ c. conversion_of c ≡ conversion_of self) }
         ensures memory { IfErr result (λ e. e ≡ errors.Memory) }
     {
         let RenderConfig {
@@ -256,12 +318,14 @@ impl<D: TextDecorator + Drop> RenderConfig<D> {
             options,
             min_wrap_width,
             rules,
+            conversion,
         } = self;
         Ok(RenderConfig {
             decorator,
             options,
             min_wrap_width,
             rules: joined(decorating_rules(alloc)?, rules)?,
+            conversion,
         })
     }
 
@@ -269,6 +333,7 @@ impl<D: TextDecorator + Drop> RenderConfig<D> {
     pub fn style_rules(self, rules: Vec<StyleRule>) -> Result<RenderConfig<D>, RenderError>
         ensures setting { IfOk result (λ c. setting_of D.view c ≡ setting_of D.view self) }
         ensures rules { IfOk result (λ c. rules_of c ≡ rules_of self ++ rules.items) }
+        ensures conversion { IfOk result (λ c. conversion_of c ≡ conversion_of self) }
         ensures memory { IfErr result (λ e. e ≡ errors.Memory) }
     {
         let RenderConfig {
@@ -276,25 +341,27 @@ impl<D: TextDecorator + Drop> RenderConfig<D> {
             options,
             min_wrap_width,
             rules: standing,
+            conversion,
         } = self;
         Ok(RenderConfig {
             decorator,
             options,
             min_wrap_width,
             rules: joined(standing, rules)?,
+            conversion,
         })
     }
 
     /// The render tree of a page. The error is `Fail` exactly where the page has none, else allocation failure.
     pub fn dom_to_render_tree(&self, alloc: Global, dom: &RcDom) -> Result<RenderTree, RenderError>
-        ensures tree { IfOk result (λ tree. tree ≡ document_values (rules_of self.now) dom.now.forest) }
+        ensures tree { IfOk result (λ tree. tree ≡ document_values (conversion_of self.now) (rules_of self.now) dom.now.forest) }
         ensures some { IfOk result (λ tree. tree ≢ none) }
         ensures numbered { IfOk result (λ tree. AreNumbered tree) }
-        ensures fail { result ≡ Err errors.Fail → document_values (rules_of self.now) dom.now.forest ≡ none }
+        ensures fail { result ≡ Err errors.Fail → document_values (conversion_of self.now) (rules_of self.now) dom.now.forest ≡ none }
         ensures kinds { result ≢ Err errors.TooNarrow }
     {
         pages_are_numbered();
-        render_conversion::dom_to_render_tree(alloc, dom, self.rules.as_slice())
+        render_conversion::dom_to_render_tree(alloc, dom, self.conversion, self.rules.as_slice())
     }
 
     // the renderers of the page after its last value, which keep annotations or don't

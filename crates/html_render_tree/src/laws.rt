@@ -4,6 +4,7 @@ ghost use Rattle.block_renderer.specs.Seen.{marking};
 ghost use Rattle.tree_forest.specs.Forest.{Forest};
 ghost use Rattle.html_render_tree.specs.PageLaws.{PagesHaveRoom, PagesKeepWidth, TextsKeepWidth};
 ghost use Rattle.render_conversion.specs.Conversion.{document_values};
+ghost use Rattle.render_conversion.specs.declared.options.ConversionOptions.{ConversionOptions};
 ghost use Rattle.dom_styles.specs.declared.rules.StyleRule.{StyleRule as SeenRule};
 ghost use Rattle.text_decorators.specs.Marks.{Mark};
 ghost use Rattle.layout_laws.specs.WalkLaws.{AreNumbered};
@@ -42,7 +43,8 @@ pub fn pages_with_room_are_never_too_narrow<D: TextDecorator>()
     values_with_room_are_laid::<D>();
 }
 
-/// The lists of a page begin with numbers of 64 bits, whatever stands in it and whatever the rules of style say.
+/// The lists of a page begin with numbers of 64 bits, whatever stands in it, whatever is asked of its
+/// conversion and whatever the rules of style say.
 pub fn pages_are_numbered()
-    ensures { (rules : List SeenRule) (f : Forest) → AreNumbered (document_values rules f) }
+    ensures { (o : ConversionOptions) (rules : List SeenRule) (f : Forest) → AreNumbered (document_values o rules f) }
 {}

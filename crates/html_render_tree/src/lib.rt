@@ -14,11 +14,13 @@
 //!   `unicode_strikeout`, `link_footnotes`, `shared_footnotes`, `empty_img_mode`: the options, the narrowest wrap
 //!   and the rules of style that a configuration has, and that each call changes its own alone, to just this;
 //!   `raw_mode` takes the borders of tables away too, whichever mode is asked for
+//! - `RenderConfig::complete`, `skip_hidden`: what is asked of the conversion, and that each changes its own alone
 //! - `RenderConfig::do_decorate`, `style_rules`: the ten rules that mark emphasis, strong text, terms and code
 //!   stand before all rules that stand; further rules stand after them
 //! - `RenderConfig::options`, `narrowest_wrap`: the options and the narrowest wrap of the configuration
-//! - `RenderConfig::dom_to_render_tree`: exactly the values of the document by the table and the rules, whose lists
-//!   begin with numbers of 64 bits; `Fail` only where the page converts to nothing, never `TooNarrow`
+//! - `RenderConfig::dom_to_render_tree`: exactly the values of the document by the table, what is asked of the
+//!   conversion and the rules, whose lists begin with numbers of 64 bits; `Fail` only where the page converts to
+//!   nothing, never `TooNarrow`
 //! - `RenderConfig::render_to_lines`: over any decorator: just the lines of `page_lines`, only where the width is
 //!   not 0; `TooNarrow` only where the width is 0 or the page has none there; never `Fail`; else the error is
 //!   allocation failure. No line passes the width, of two columns or more, where overflow is off, links are wrapped
@@ -32,16 +34,16 @@
 //! - `pages_keep_the_width`, `texts_keep_the_width`, `pages_with_room_are_never_too_narrow`, `pages_are_numbered`:
 //!   laws: the same of the definitions alone; the lists of a page begin with numbers of 64 bits
 //!
-//! Tested (`test_pages`): four pages as text, a refused one among them. The cases `page` of stored_rows are 500
-//! pages without tables, 400 with tables, 600 with options and rules of style and 200 with links, 142 of them with
-//! shared footnotes, of a model of the layout that was written independently: plain with marks and targets, plain
-//! alone, rich, and by the trivial decorator, at many widths, with each option, and with rules that set colours,
-//! backgrounds, white space, content and what is not shown; 55 of that model, each of which has other lines under a
-//! certain misreading of the rules (the mode of white space or the style of what stands around, numbers of links,
-//! borders that become text, and the like); and 91 by hand, among them refused ones and tables with row spans and
-//! column spans of any number. Each page comes as a whole and a byte at a time, and its lines, with their tags and
-//! markers, are the model's or those written by hand. What is not pinned: that memory is found; what a decorator of
-//! another program puts after the page is what its own contract says.
+//! Tested (`test_pages`): four pages as text, a refused one among them. The cases `page` of stored_rows are 500 pages
+//! without tables, 400 with tables, 600 with options and rules of style, 200 with links, 142 of them with shared
+//! footnotes, and 292 with what complete pages and `skip_hidden` read, of a model of the layout that was written
+//! independently: plain with marks and targets, plain alone, rich, and by the trivial decorator, at many widths, with
+//! each option, and with rules that set colours, backgrounds, white space, content and what is not shown; 55 of that
+//! model, each of which has other lines under a certain misreading of the rules (the mode of white space or the style
+//! of what stands around, numbers of links, borders that become text, and the like); and 91 by hand, among them
+//! refused ones and tables with row spans and column spans of any number. Each page comes as a whole and a byte at a
+//! time, and its lines, with their tags and markers, are the model's or those written by hand. What is not pinned:
+//! that memory is found; what a decorator of another program puts after the page is what its own contract says.
 #![tactic(auto)]
 
 mod closing;

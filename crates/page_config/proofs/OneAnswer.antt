@@ -21,7 +21,7 @@ OneTree = (table : References) (options : ParseOpts) (bytes : List ℕ) (one oth
 
 values_are_one : {H : Type 0} → OneTree → (c : PageSetting H) (bytes : List ℕ) (one other : Values)
     → ArePageValues c bytes one → ArePageValues c bytes other → one ≡ other
-values_are_one trees c bytes one other a b = sym a.same ∙ ap (document_values c.rules)
+values_are_one trees c bytes one other a b = sym a.same ∙ ap (document_values c.conversion c.rules)
     (trees c.table c.parsing bytes a.forest b.forest a.quirks b.quirks a.tree b.tree) ∙ b.same
 
 abbrev lines_in : {A : Type 0} → PageAnswer A → List (List (Item (List A)))

@@ -13,6 +13,7 @@ pub plain_alike : (table : References) (c d : PageSetting (Unit {0})) → IsPlai
 plain_alike table c d p q = record {
   table = p.table ∙ sym q.table;
   parsing = p.parsing ∙ sym q.parsing;
+  conversion = p.conversion ∙ sym q.conversion;
   rules = p.rules ∙ sym q.rules;
   options = p.options ∙ sym q.options;
   min_wrap = p.min_wrap ∙ sym q.min_wrap;

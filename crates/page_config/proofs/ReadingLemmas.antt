@@ -20,7 +20,7 @@ use Rattle.text_lines.specs.Tagged.{Item}
 use Rattle.text_decorators.specs.Marks.{DecoratorView, Mark}
 
 pub read_values : {H : Type 0} (c : PageSetting H) (all : Option (List ℕ)) (forest : Forest) (mode : QuirksMode)
-    (values : Values) → document_values c.rules forest ≡ values
+    (values : Values) → document_values c.conversion c.rules forest ≡ values
     → IfSome all (λ bytes. IsTreeOfBytes c.table c.parsing bytes forest mode)
     → IfSome all (λ bytes. ArePageValues c bytes values)
 read_values c None forest mode values same tree = tt

@@ -5,6 +5,7 @@ use Rattle.html_render_tree.specs.PageLines.{Setting}
 use Rattle.page_config.specs.PageAnswers.{HasAnswer, HasText, IsAnswerOf, PageAnswer, lines}
 use Rattle.page_config.specs.Settings.{PageSetting}
 use Rattle.page_reading.specs.PageTrees.{IsTreeOfBytes}
+use Rattle.render_conversion.specs.Conversion.{document_values}
 use Rattle.render_conversion.specs.Decorating.{seen_rule}
 use Rattle.block_trait.specs.Renderers.{Marking}
 use Rattle.block_trait.specs.declared.options.RenderOptions.{RenderOptions}
@@ -13,6 +14,7 @@ use Rattle.text_lines.specs.Tagged.{Item}
 pub record AreAlike (c d : PageSetting (Unit {0})) : Type 0 where
   pub table : c.table ≡ d.table
   pub parsing : c.parsing ≡ d.parsing
+  pub conversion : c.conversion ≡ d.conversion
   pub rules : map seen_rule c.rules ≡ map seen_rule d.rules
   pub options : c.rendering.options ≡ d.rendering.options
   pub min_wrap : c.rendering.min_wrap ≡ d.rendering.min_wrap
@@ -33,7 +35,8 @@ module _ {T A : Type 0} (m : Marking (Unit {0}) A) (seen : T → A)
       tree = subst (λ table. IsTreeOfBytes table d.parsing bytes a.page.forest a.page.quirks) alike.table
           (subst (λ parsing. IsTreeOfBytes c.table parsing bytes a.page.forest a.page.quirks) alike.parsing
           a.page.tree);
-      same = sym (values_alike c.rules d.rules a.page.forest alike.rules) ∙ a.page.same;
+      same = sym (values_alike d.conversion c.rules d.rules a.page.forest alike.rules)
+          ∙ ap (λ o. document_values o c.rules a.page.forest) (sym alike.conversion) ∙ a.page.same;
     };
     answered = subst (λ rendering. IsAnswerOf m seen closes rendering width a.values answer)
         (ap (λ options. rendered_by options c.rendering.min_wrap) alike.options

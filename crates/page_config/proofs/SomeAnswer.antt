@@ -50,7 +50,7 @@ module _ {T H A : Type 0} (m : Marking H A) (seen : T → A) (closes : H → Lis
       → (answer : PageAnswer A) × HasAnswer m seen closes c width bytes answer
   page_answered trees c width bytes =
       let tree = trees c.table c.parsing bytes in
-      let values = document_values c.rules tree.0 in
+      let values = document_values c.conversion c.rules tree.0 in
       let answer = some_answer c.rendering width values in (
         answer.0,
         record {

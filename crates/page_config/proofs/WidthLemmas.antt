@@ -7,6 +7,7 @@ use Rattle.html_render_tree.proofs.TextWidths.{as_lines}
 use Rattle.page_config.specs.PageAnswers.{HasAnswer, HasText, IsAnswerOf, lines, too_narrow}
 use Rattle.page_config.specs.Settings.{PageSetting}
 use Rattle.render_conversion.specs.Conversion.{document_values}
+use Rattle.render_conversion.specs.declared.options.ConversionOptions.{ConversionOptions}
 use Rattle.render_values.specs.Values.{Values}
 use Rattle.block_trait.specs.Renderers.{Marking}
 use Rattle.dom_styles.specs.declared.rules.StyleRule.{StyleRule}
@@ -17,17 +18,17 @@ use Rattle.html_render_tree.specs.WalkLaws.{AreNumbered}
 
 module _ {T H A : Type 0} (m : Marking H A) (seen : T → A) (closes : H → List (List ℕ) → List (List (Item T)))
   where
-    pub within_width : ((rules : List StyleRule) (f : Forest) → AreNumbered (document_values rules f))
+    pub within_width : ((o : ConversionOptions) (rules : List StyleRule) (f : Forest) → AreNumbered (document_values o rules f))
         → PagesKeepWidth m seen closes → (c : PageSetting H) (width : ℕ) (bytes : List ℕ)
         (shown : List (List (Item (List A)))) → IsSteady m.mark_text → c.rendering.options.allow_width_overflow ≡ false
         → c.rendering.options.wrap_links ≡ true → 2 ≤ width → HasAnswer m seen closes c width bytes (lines shown)
         → AreWithin width shown
     within_width numbered keeps c width bytes shown steady off wrapped wide has =
         keeps c.rendering width has.values shown
-        steady (subst AreNumbered has.page.same (numbered c.rules has.page.forest)) off wrapped wide
+        steady (subst AreNumbered has.page.same (numbered c.conversion c.rules has.page.forest)) off wrapped wide
         has.answered.1.1
 
-    pub text_within : ((rules : List StyleRule) (f : Forest) → AreNumbered (document_values rules f))
+    pub text_within : ((o : ConversionOptions) (rules : List StyleRule) (f : Forest) → AreNumbered (document_values o rules f))
         → PagesKeepWidth m seen closes → (c : PageSetting H) (width : ℕ) (bytes text : List ℕ)
         → IsSteady m.mark_text → c.rendering.options.allow_width_overflow ≡ false
         → c.rendering.options.wrap_links ≡ true → 2 ≤ width → HasText m seen closes c width bytes text

@@ -18,7 +18,7 @@ pub record ArePageValues {H : Type 0} (c : PageSetting H) (bytes : List ℕ) (va
   pub forest : Forest
   pub quirks : QuirksMode
   pub tree : IsTreeOfBytes c.table c.parsing bytes forest quirks
-  pub same : document_values c.rules forest ≡ values
+  pub same : document_values c.conversion c.rules forest ≡ values
 
 -- Lines, each its characters with their annotations and its markers; that the width is too narrow; or that there is
 -- nothing to render.

@@ -6,6 +6,7 @@ use Rattle.html_tree_builder.specs.Defaults.{default_parse}
 use Rattle.page_config.specs.PageAnswers.{HasAnswer, HasText, PageAnswer}
 use Rattle.page_config.specs.Settings.{PageSetting}
 use Rattle.render_conversion.specs.Decorating.{decorating_rules, seen_rule}
+use Rattle.render_conversion.specs.Options.{default_conversion}
 use Rattle.block_trait.specs.Defaults.{default_options}
 use Rattle.text_decorators.specs.Texts.{plain_text}
 use Rattle.text_decorators.specs.declared.plain.PlainDecorator.{PlainDecorator}
@@ -29,6 +30,7 @@ plain_view = record {
 pub record IsPlain (names : References) (c : PageSetting (Unit {0})) : Type 0 where
   pub table : c.table ≡ names
   pub parsing : c.parsing ≡ default_parse
+  pub conversion : c.conversion ≡ default_conversion
   pub rules : map seen_rule c.rules ≡ decorating_rules
   pub options : c.rendering.options ≡ record default_options { include_link_footnotes = true }
   pub min_wrap : c.rendering.min_wrap ≡ 3

@@ -1,5 +1,5 @@
 //! How pages are read and rendered.
-ghost use Rattle.std.specs.Prelude.{◌≡◌, ◌≢◌, ◌⊎◌, ◌<◌, ◌≤◌, ◌++◌, Err, IfErr, IfOk, Some, chars, false, map};
+ghost use Rattle.std.specs.Prelude.{◌≡◌, ◌≢◌, ◌⊎◌, ◌<◌, ◌≤◌, ◌++◌, Err, IfErr, IfOk, Some, chars, false, map, not};
 ghost use Rattle.std.specs.Prelude.{string_bytes, true};
 
 use crate::error::Error;
@@ -31,8 +31,10 @@ impl<D: TextDecorator + Drop> Config<D> {
     ghost use Rattle.html_render_tree.specs.Settings.{IsDecorated};
     ghost use Rattle.html_render_tree.specs.PageLines.{page_lines, page_text};
     ghost use Rattle.page_config.specs.Settings.{by_default, max_bytes_of, page_setting, rendered_with};
+    ghost use Rattle.page_config.specs.Settings.{scripted};
     ghost use Rattle.page_config.specs.declared.error.Error.TheVariants as errors;
     ghost use Rattle.render_conversion.specs.Conversion.{document_values};
+    ghost use Rattle.render_conversion.specs.Options.{pages_of};
     ghost use Rattle.render_values.specs.Values.{none};
     ghost use Rattle.text_lines.specs.Tagged.{line_items};
     ghost use Rattle.text_decorators.specs.Marks.{IsSteady};
@@ -252,6 +254,41 @@ impl<D: TextDecorator + Drop> Config<D> {
         })
     }
 
+    /// Whether elements that hide themselves are left out, with all that stands in them: by an attribute `hidden` whose
+    /// value isn't `until-found`, or by a declaration `display: none` in their attribute `style`. The elements `html`
+    /// and `body` never hide themselves. By default all are shown.
+    pub fn skip_hidden(self, skip: bool) -> Config<D>
+        ensures setting { page_setting D.view result ≡ record (page_setting D.view self) {
+          conversion = record (page_setting D.view self).conversion { skip_hidden = skip };
+        } }
+        ensures bytes { max_bytes_of result ≡ max_bytes_of self }
+    {
+        Config {
+            rendering: self.rendering.skip_hidden(skip),
+            ..self
+        }
+    }
+
+    /// Whether pages are shown completely: with the rows of complete pages before the others of the table of conversion,
+    /// and parsed without scripting, so that what stands in `noscript` is read as elements. A rule for `hr`, captions
+    /// and feet of tables, quotation marks for `q`, the texts of drawings, blocks that stand in lines of their own, and
+    /// nothing for what browsers don't render. By default pages aren't, and are parsed with scripting; `parse_opts`
+    /// after it says otherwise.
+    pub fn complete(self, complete: bool) -> Config<D>
+        ensures setting { page_setting D.view result ≡ record (page_setting D.view self) {
+          conversion = record (page_setting D.view self).conversion { pages = pages_of complete };
+          parsing = scripted (not complete) (page_setting D.view self).parsing;
+        } }
+        ensures bytes { max_bytes_of result ≡ max_bytes_of self }
+    {
+        let mut config = Config {
+            rendering: self.rendering.complete(complete),
+            ..self
+        };
+        config.parsing.tree_builder.scripting_enabled = !complete;
+        config
+    }
+
     /// Whether these marks were asked for.
     pub fn decorates(&self) -> bool
         ensures { result ≡ (page_setting D.view self.now).decorates }
@@ -318,11 +355,12 @@ impl<D: TextDecorator + Drop> Config<D> {
     /// The render tree of a page. The error is `Fail` exactly where the page has none, else allocation failure.
     pub fn dom_to_render_tree(&self, alloc: Global, dom: &RcDom) -> Result<RenderTree, Error>
         ensures tree { IfOk result (λ tree. tree
-            ≡ document_values (page_setting D.view self.now).rules dom.now.forest) }
+            ≡ document_values (page_setting D.view self.now).conversion (page_setting D.view self.now).rules
+            dom.now.forest) }
         ensures some { IfOk result (λ tree. tree ≢ none) }
         ensures numbered { IfOk result (λ tree. AreNumbered tree) }
-        ensures fail { result ≡ Err errors.Fail → document_values (page_setting D.view self.now).rules dom.now.forest
-            ≡ none }
+        ensures fail { result ≡ Err errors.Fail → document_values (page_setting D.view self.now).conversion
+            (page_setting D.view self.now).rules dom.now.forest ≡ none }
         ensures kinds { IfErr result (λ e. (e ≡ errors.Fail) ⊎ (e ≡ errors.Memory)) }
     {
         Ok(self.rendering.dom_to_render_tree(alloc, dom)?)

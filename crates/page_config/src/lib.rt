@@ -3,12 +3,14 @@
 //! # What is proved
 //!
 //! What a configuration says of a page is a `PageSetting` (`specs/Settings.antt`): the table of references and the
-//! options by which it is parsed, the rules of style, what it is rendered by, and whether `do_decorate` was called.
+//! options by which it is parsed, what is asked of the conversion, the rules of style, what it is rendered by, and
+//! whether `do_decorate` was called.
 //!
 //! - `Config::with_decorator`, `plain`, `plain_no_decorate`, `rich`: what such a configuration says; `plain` marks
 //!   emphasis, strong text, terms and code, and has the targets of links after the page
 //! - `Config::max_bytes`, `table`, `parse_opts`, and each option of `RenderConfig`: each changes its own part, to
 //!   just this, and leaves the rest
+//! - `Config::complete`: the rows of complete pages, and that pages are parsed without scripting
 //! - `Config::do_decorate`, `decorates`, `options`, `narrowest_wrap`: the ten rules stand before all others from
 //!   the first call on, and it is noted that they were asked for; a further call changes nothing; what the
 //!   configuration says

@@ -6,6 +6,7 @@ use Rattle.tree_forest.specs.Forest.{Kind, document}
 use Rattle.render_conversion.specs.Conversion.{document_values, value_before, values}
 use Rattle.render_conversion.specs.Meanings.{meaning}
 use Rattle.render_conversion.specs.Styles.{Parts, Styles, all_unset, styles_of}
+use Rattle.render_conversion.specs.declared.options.ConversionOptions.{ConversionOptions}
 use Rattle.render_conversion.specs.declared.place.Place.TheVariants.{Flow}
 use Rattle.render_values.specs.Values.{Values, joined, none, value}
 use Rattle.render_values.specs.declared.info.RenderInfo.TheVariants as infos
@@ -22,49 +23,50 @@ joined_none none = refl
 joined_none (value head inside rest) = ap (λ vs. value head inside vs) (joined_none rest)
 
 -- of a node, by its style
-abbrev by_style : Kind → Trees → (inside rest : Values) → Parts → Values
-by_style kind kids inside rest style = value_before Flow (meaning Flow kind kids) kind style inside rest
+abbrev by_style : ConversionOptions → Kind → Trees → (inside rest : Values) → Parts → Values
+by_style o kind kids inside rest style =
+    value_before o Flow (meaning o.pages Flow kind kids) kind style (λ _. inside) rest
 
-module _ (s : Styles) where
+module _ (o : ConversionOptions) (s : Styles) where
   paragraphs_valued : s (codes "p") ≡ all_unset → (texts : List (List ℕ)) →
-      values s Flow (trees_of_paragraphs texts) ≡ block_values texts
+      values o s Flow (trees_of_paragraphs texts) ≡ block_values texts
   paragraphs_valued e [] = refl
   paragraphs_valued e ([] ∷ texts) =
-      ap (by_style (kind_of (codes "p")) of_trees.none none (values s Flow (trees_of_paragraphs texts))) e
+      ap (by_style o (kind_of (codes "p")) of_trees.none none (values o s Flow (trees_of_paragraphs texts))) e
       ∙ ap (λ vs. value (plain_head infos.Block) none vs) (paragraphs_valued e texts)
   paragraphs_valued e ((c ∷ cs) ∷ texts) =
-      ap (by_style (kind_of (codes "p")) (text_trees (c ∷ cs)) (text_values (c ∷ cs))
-      (values s Flow (trees_of_paragraphs texts))) e
+      ap (by_style o (kind_of (codes "p")) (text_trees (c ∷ cs)) (text_values (c ∷ cs))
+      (values o s Flow (trees_of_paragraphs texts))) e
       ∙ ap (λ vs. value (plain_head infos.Block) (text_values (c ∷ cs)) vs) (paragraphs_valued e texts)
 
   abbrev body : Trees → Trees
   body inside = node (kind_of (codes "body")) inside of_trees.none
 
   body_valued : s (codes "body") ≡ all_unset → (inside : Trees) →
-      values s Flow (body inside) ≡ container (values s Flow inside)
+      values o s Flow (body inside) ≡ container (values o s Flow inside)
   body_valued e inside =
-      ap (by_style (kind_of (codes "body")) inside (values s Flow inside) none) e
-      ∙ ap container (joined_none (values s Flow inside))
+      ap (by_style o (kind_of (codes "body")) inside (values o s Flow inside) none) e
+      ∙ ap container (joined_none (values o s Flow inside))
 
   -- `head` has no value
   head_valued : s (codes "head") ≡ all_unset → (rest : Trees) →
-      values s Flow (node (kind_of (codes "head")) of_trees.none rest) ≡ values s Flow rest
-  head_valued e rest = ap (by_style (kind_of (codes "head")) of_trees.none none (values s Flow rest)) e
+      values o s Flow (node (kind_of (codes "head")) of_trees.none rest) ≡ values o s Flow rest
+  head_valued e rest = ap (by_style o (kind_of (codes "head")) of_trees.none none (values o s Flow rest)) e
 
   html_valued : s (codes "html") ≡ all_unset → (inside : Trees) →
-      values s Flow (node (kind_of (codes "html")) inside of_trees.none) ≡ container (values s Flow inside)
+      values o s Flow (node (kind_of (codes "html")) inside of_trees.none) ≡ container (values o s Flow inside)
   html_valued e inside =
-      ap (by_style (kind_of (codes "html")) inside (values s Flow inside) none) e
-      ∙ ap container (joined_none (values s Flow inside))
+      ap (by_style o (kind_of (codes "html")) inside (values o s Flow inside) none) e
+      ∙ ap container (joined_none (values o s Flow inside))
 
   -- a document has a value where something stands in it
-  document_valued : (inside : Trees) (vs : Values) → values s Flow inside ≡ container vs →
-      values s Flow (node document inside of_trees.none) ≡ container (container vs)
-  document_valued inside vs e = ap (λ vs. by_style document inside vs none all_unset) e
+  document_valued : (inside : Trees) (vs : Values) → values o s Flow inside ≡ container vs →
+      values o s Flow (node document inside of_trees.none) ≡ container (container vs)
+  document_valued inside vs e = ap (λ vs. by_style o document inside vs none all_unset) e
 
   page_valued : s (codes "html") ≡ all_unset → s (codes "head") ≡ all_unset → s (codes "body") ≡ all_unset →
       s (codes "p") ≡ all_unset → (texts : List (List ℕ)) →
-      values s Flow (document_trees (trees_of_paragraphs texts)) ≡ paragraph_values texts
+      values o s Flow (document_trees (trees_of_paragraphs texts)) ≡ paragraph_values texts
   page_valued of_html of_head of_body of_p texts =
       let inside = body (trees_of_paragraphs texts) in
       let html = node (kind_of (codes "head")) of_trees.none inside in
@@ -73,11 +75,11 @@ module _ (s : Styles) where
       ∙ ap container (head_valued of_head inside ∙ body_valued of_body (trees_of_paragraphs texts)
       ∙ ap container (paragraphs_valued of_p texts)))
 
-pub values_of_page : (at_once : PlantsAtOnce) (rules : List StyleRule) (texts : List (List ℕ)) → AreQuiet rules →
-    document_values rules (paragraph_tree texts) ≡ paragraph_values texts
-values_of_page at_once rules texts quiet =
-    ap (values (styles_of rules) Flow) (trees_of_page at_once texts)
-    ∙ page_valued (styles_of rules) (styles_unset rules quiet (codes "html") (λ place. refl))
+pub values_of_page : (at_once : PlantsAtOnce) (o : ConversionOptions) (rules : List StyleRule) (texts : List (List ℕ)) → AreQuiet rules →
+    document_values o rules (paragraph_tree texts) ≡ paragraph_values texts
+values_of_page at_once o rules texts quiet =
+    ap (values o (styles_of rules) Flow) (trees_of_page at_once texts)
+    ∙ page_valued o (styles_of rules) (styles_unset rules quiet (codes "html") (λ place. refl))
     (styles_unset rules quiet (codes "head") (λ place. refl))
     (styles_unset rules quiet (codes "body") (λ place. refl))
     (styles_unset rules quiet (codes "p") (λ place. refl)) texts

@@ -4,6 +4,7 @@ use Rattle.html_render_tree.specs.PageLines.{Setting, page_lines}
 use Rattle.html_render_tree.specs.PlainText.{plain_closes, plain_marking}
 use Rattle.render_conversion.specs.Conversion.{document_values}
 use Rattle.render_conversion.specs.Decorating.{decorating_rules, seen_rule}
+use Rattle.render_conversion.specs.declared.options.ConversionOptions.{ConversionOptions}
 use Rattle.render_values.specs.Values.{Values, none}
 use Rattle.block_trait.specs.Defaults.{default_options}
 use Rattle.dom_styles.specs.declared.rules.StyleRule.{StyleRule}
@@ -32,6 +33,6 @@ pub record AreLaid (c : Setting (Unit {0})) (width : ℕ) (texts : List (List �
       ↔ Any (IsWiderText width) texts
 
 abbrev pub ParagraphPagesAreLaid : Type 0
-ParagraphPagesAreLaid = (rules : List StyleRule) (c : Setting (Unit {0})) (width : ℕ) (texts : List (List ℕ)) →
+ParagraphPagesAreLaid = (o : ConversionOptions) (rules : List StyleRule) (c : Setting (Unit {0})) (width : ℕ) (texts : List (List ℕ)) →
     AreQuiet rules → IsPlain c → 0 < width →
-    AreLaid c width texts (document_values rules (paragraph_tree texts))
+    AreLaid c width texts (document_values o rules (paragraph_tree texts))

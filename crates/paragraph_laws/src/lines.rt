@@ -5,6 +5,7 @@ ghost use Rattle.paragraph_laws.specs.ParagraphPages.{AreLaid, AreQuiet, IsPlain
 ghost use Rattle.paragraph_laws.specs.ParagraphValues.{paragraph_values};
 ghost use Rattle.paragraph_laws.specs.ParagraphTrees.{paragraph_tree};
 ghost use Rattle.render_conversion.specs.Conversion.{document_values};
+ghost use Rattle.render_conversion.specs.declared.options.ConversionOptions.{ConversionOptions};
 ghost use Rattle.dom_styles.specs.declared.rules.StyleRule.{StyleRule};
 
 use document_laws::a_planted_tree_is_at_once;
@@ -13,10 +14,11 @@ use text_block_renderer::{
     one_fullest_layout, wide_text_never_fits,
 };
 
-/// The values of a page of paragraphs: a block for each, and a text in it unless that is empty.
+/// The values of a page of paragraphs, whatever is asked of its conversion: a block for each, and a text in it unless
+/// that is empty.
 pub fn paragraphs_have_their_values()
-    ensures { (rules : List StyleRule) (texts : List (List ℕ)) → AreQuiet rules →
-        document_values rules (paragraph_tree texts) ≡ paragraph_values texts }
+    ensures { (o : ConversionOptions) (rules : List StyleRule) (texts : List (List ℕ)) → AreQuiet rules →
+        document_values o rules (paragraph_tree texts) ≡ paragraph_values texts }
 {
     a_planted_tree_is_at_once();
 }

@@ -31,7 +31,7 @@ module _ (has_tree : HasTree) (trees : ParagraphPagesHaveTheirTrees handle_of) (
     (c : PageSetting (Unit {0})) (bytes : List ℕ) (texts : List (List ℕ)) (plainly : IsPlainly c)
     (page : IsParagraphPage (page_text true (replaced_text bytes)) texts) where
   abbrev its_values : Values
-  its_values = document_values c.rules (paragraph_tree texts)
+  its_values = document_values c.conversion c.rules (paragraph_tree texts)
 
   its_tree : (forest : Forest) (mode : QuirksMode) → IsTreeOfBytes c.table c.parsing bytes forest mode
       → forest ≡ paragraph_tree texts
@@ -40,18 +40,18 @@ module _ (has_tree : HasTree) (trees : ParagraphPagesHaveTheirTrees handle_of) (
 
   its_values_alone : (values : Values) → ArePageValues c bytes values → values ≡ its_values
   its_values_alone values are = sym are.same
-      ∙ ap (document_values c.rules) (its_tree are.forest are.quirks are.tree)
+      ∙ ap (document_values c.conversion c.rules) (its_tree are.forest are.quirks are.tree)
 
   are_its_values : ArePageValues c bytes its_values
   are_its_values = let tree = has_tree c.table c.parsing bytes in record {
     forest = tree.0;
     quirks = tree.1;
     tree = tree.2;
-    same = ap (document_values c.rules) (its_tree tree.0 tree.1 tree.2);
+    same = ap (document_values c.conversion c.rules) (its_tree tree.0 tree.1 tree.2);
   }
 
   laid_at : (width : ℕ) → 0 < width → AreLaid c.rendering width texts its_values
-  laid_at width wide = are_laid c.rules c.rendering width texts plainly.rules plainly.rendering wide
+  laid_at width wide = are_laid c.conversion c.rules c.rendering width texts plainly.rules plainly.rendering wide
 
   lines_emitted : (width : ℕ) (shown : List PlainItems)
       → HasAnswer plain_marking (λ _. tt) plain_closes c width bytes (lines shown)
