@@ -8,6 +8,7 @@ use article_values::Article;
 use article_writing::WriteArticle;
 use dom_writing::SerializeDom;
 use html_lexemes::Device;
+use html_tree_builder::ParseOpts;
 use page_config::Error as PageError;
 use std::alloc::Global;
 use std::str;
@@ -87,14 +88,14 @@ fn push_laid_line(lines: &mut String, line: &ArticleLine) -> Result<()> {
 
 /// The lines on the tree of a page, which is the same however the page comes, and is written as the page.
 fn tree_read_back(alloc: Global, page: &[u8]) -> Result<String> {
-    let dom = tree_of(alloc, page, page.len())?;
+    let dom = tree_of(alloc, page, page.len(), ParseOpts::default())?;
     let mut again = Device::new(Vec::new(alloc));
     dom.serialize(alloc, &mut again)?;
     if again.into_inner().as_slice() != page {
         bail!("a page that is written again as another");
     }
     let lines = lines_of(alloc, &dom)?;
-    if lines_of(alloc, &tree_of(alloc, page, 1)?)? != lines {
+    if lines_of(alloc, &tree_of(alloc, page, 1, ParseOpts::default())?)? != lines {
         bail!("a page that has another tree, a byte at a time");
     }
     Ok(lines)

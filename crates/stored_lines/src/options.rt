@@ -2,6 +2,7 @@
 use anyhow::{Result, bail};
 use block_trait::ImageRenderMode;
 use html_render_tree::RenderConfig;
+use html_tree_builder::ParseOpts;
 use std::alloc::Global;
 use std::num::NonZeroUsize;
 use text_decorators::TextDecorator;
@@ -33,6 +34,10 @@ pub(crate) enum PageOption {
     LinkFootnotes(bool),
     /// Whether links to equal targets share a footnote.
     SharedFootnotes(bool),
+    /// Whether elements that hide themselves are left out.
+    SkipHidden(bool),
+    /// Whether pages are shown completely.
+    Complete(bool),
 }
 
 impl PageOption {
@@ -54,8 +59,21 @@ impl PageOption {
             PageOption::EmptyImgMode(image) => config.empty_img_mode(image.render_mode()),
             PageOption::LinkFootnotes(include) => config.link_footnotes(include),
             PageOption::SharedFootnotes(shared) => config.shared_footnotes(shared),
+            PageOption::SkipHidden(skip) => config.skip_hidden(skip),
+            PageOption::Complete(complete) => config.complete(complete),
         }
     }
+}
+
+/// How a page is parsed by these options: without scripting where pages are shown completely.
+pub(crate) fn parsing_by(options: &[PageOption]) -> ParseOpts {
+    let mut parsing = ParseOpts::default();
+    for option in options {
+        if let PageOption::Complete(complete) = option {
+            parsing.tree_builder.scripting_enabled = !*complete;
+        }
+    }
+    parsing
 }
 
 /// How an image with an empty title is rendered.
@@ -118,6 +136,8 @@ fn option_with(name: &str, value: &str) -> Result<PageOption> {
         ("raw_mode", raw) => Ok(PageOption::RawMode(raw.parse()?)),
         ("link_footnotes", include) => Ok(PageOption::LinkFootnotes(include.parse()?)),
         ("shared_footnotes", shared) => Ok(PageOption::SharedFootnotes(shared.parse()?)),
+        ("skip_hidden", skip) => Ok(PageOption::SkipHidden(skip.parse()?)),
+        ("complete", complete) => Ok(PageOption::Complete(complete.parse()?)),
         ("empty_img_mode", "ShowAlways") => Ok(PageOption::EmptyImgMode(EmptyImage::Shown)),
         ("empty_img_mode", "Filename") => Ok(PageOption::EmptyImgMode(EmptyImage::Named)),
         ("empty_img_mode", "Replace,R") => Ok(PageOption::EmptyImgMode(EmptyImage::Replaced)),

@@ -1,6 +1,10 @@
 //! Lines of pages by a configuration.
+ghost use Rattle.std.specs.Prelude.{IfOk};
+ghost use Rattle.lex_base.specs.References.{basic};
+ghost use Rattle.page_reading.specs.PageTrees.{IsTreeOfBytes};
+
 use crate::elements::{Named, push_elements};
-use crate::options::{PageOption, options_of};
+use crate::options::{PageOption, options_of, parsing_by};
 use crate::rules::rule_of;
 use anyhow::{Result, bail};
 use dom_styles::StyleRule;
@@ -90,34 +94,41 @@ where
         config = option.applied(config);
     }
     let config = config.style_rules(rules)?;
-    lines_however_read(alloc, &config, text.as_bytes(), width)
+    let parsing = parsing_by(options.as_slice());
+    lines_however_read(alloc, &config, &parsing, text.as_bytes(), width)
 }
 
 /// The lines of a page, which are the same however its bytes come.
 fn lines_however_read<D: TextDecorator + Drop>(
     alloc: Global,
     config: &RenderConfig<D>,
+    parsing: &ParseOpts,
     page: &[u8],
     width: usize,
 ) -> Result<String>
 where
     D::Annotation: Named,
 {
-    let whole = tree_of(alloc, page, page.len())?;
+    let whole = tree_of(alloc, page, page.len(), parsing.try_clone()?)?;
     let lines = lines_shown(alloc, config, &whole, width)?;
-    let by_bytes = tree_of(alloc, page, 1)?;
+    let by_bytes = tree_of(alloc, page, 1, parsing.try_clone()?)?;
     if lines_shown(alloc, config, &by_bytes, width)? != lines {
         bail!("other lines, a byte at a time");
     }
     Ok(lines)
 }
 
-/// The tree of a page that comes in pieces of so many bytes, of one at least.
-pub fn tree_of(alloc: Global, page: &[u8], size: usize) -> Result<RcDom> {
+/// The tree of a page whose bytes come in pieces of `size` bytes, or of one byte where `size` is zero.
+pub fn tree_of(alloc: Global, page: &[u8], size: usize, parsing: ParseOpts) -> Result<RcDom>
+    ensures { IfOk result (λ dom. IsTreeOfBytes basic parsing page.now dom.forest dom.quirks) }
+{
     let table = ReferenceTable::basic(alloc)?;
-    let mut reader = PageReader::new(alloc, table, ParseOpts::default(), page.len())?;
-    for piece in page.chunks(size.max(1)) {
+    let mut reader = PageReader::new(alloc, table, parsing, page.len())?;
+    let mut rest = page;
+    'pieces: while !rest.is_empty() {
+        let (piece, more) = rest.split_at(rest.len().min(size.max(1)));
         reader.push(piece)?;
+        rest = more;
     }
     Ok(reader.finish()?)
 }

@@ -23,6 +23,10 @@ enum Look {
     Options,
     /// Without paragraphs.
     Hidden,
+    /// Without elements that hide themselves.
+    SkipHidden,
+    /// Completely.
+    Complete,
     /// By a table of these references.
     Names(&'static [(&'static str, &'static str)]),
     NoScripting,
@@ -50,7 +54,13 @@ const QUOTED: &[u8] = b"<blockquote>aaaa</blockquote>";
 /// A look, a width, a page, and its text or why it has none.
 type Row = (Look, usize, &'static [u8], Result<&'static str, Error>);
 
-static ROWS: [Row; 15] = [
+const HIDING: &[u8] =
+    b"<body hidden><p hidden>a</p><p style='color: red; Display: none !important'>b</p>\
+<p hidden=until-found>c</p><p style='display:block'>d</p><table><tr hidden><td>e<tr><td>f</table>";
+
+const WHOLE: &[u8] = b"<p>a</p><hr><p>b <q>c</q></p><noscript><p>d</p></noscript>";
+
+static ROWS: [Row; 18] = [
     (Look::Plain, 20, MARKED, Ok("a *b* [c][1]\n\n[1]: x\n")),
     (Look::NoTargets, 20, MARKED, Ok("a *b* [c]\n")),
     (Look::NoMarks, 20, MARKED, Ok("a b [c]\n")),
@@ -59,6 +69,14 @@ static ROWS: [Row; 15] = [
     (Look::ReadAsRich, 20, MARKED, Ok("a b c\n")),
     (Look::Options, 10, OPTIONAL, Ok(OPTIONAL_TEXT)),
     (Look::Hidden, 20, b"<p>a</p>b<em>c", Ok("b*c*\n")),
+    (Look::Complete, 3, WHOLE, Ok("a\n\n───\n\nb\n“c”\n\nd\n")),
+    (Look::SkipHidden, 20, HIDING, Ok("c\n\nd\n\n─\nf\n─\n")),
+    (
+        Look::Plain,
+        20,
+        HIDING,
+        Ok("a\n\nb\n\nc\n\nd\n\n─\ne\n─\nf\n─\n"),
+    ),
     (Look::Names(&[("x;", "y")]), 20, b"&x;&lt;", Ok("y&lt;\n")),
     (
         Look::Names(&[("not", "\u{ac}"), ("notin;", "\u{2209}")]),
@@ -121,6 +139,8 @@ fn config_of(alloc: Global, look: &Look) -> Result<Config<PlainDecorator>, Error
             let rules = hidden(alloc)?;
             config.style_rules(rules)
         }
+        Look::Complete => Ok(config.complete(true)),
+        Look::SkipHidden => Ok(config.skip_hidden(true)),
         Look::Names(names) => match ReferenceTable::new(alloc, names) {
             Ok(table) => Ok(config.table(table)),
             Err(_error) => Err(Error::Fail),

@@ -3,7 +3,7 @@ use crate::trees::{passes, tree_of};
 use dom_styles::{Display, Importance, Style, StyleDecl, StyleOrigin, StylePlace, StyleRule};
 use html_lexemes::LocalName;
 use html_render_tree::{RenderError, decorating_rules};
-use render_conversion::dom_to_render_tree;
+use render_conversion::{ConversionOptions, dom_to_render_tree};
 use std::alloc::{AllocError, Global};
 use text_decorators::Colour;
 use text_pieces::WhiteSpace;
@@ -59,7 +59,7 @@ fn is_converted(
     let Ok(dom) = tree_of(alloc, page) else {
         return Ok(false);
     };
-    let tree = dom_to_render_tree(alloc, &dom, rules)?;
+    let tree = dom_to_render_tree(alloc, &dom, ConversionOptions::default(), rules)?;
     let copy = tree.try_clone()?;
     let is_so = tree.to_string(alloc)?.as_str() == lines;
     Ok(is_so && copy.to_string(alloc)?.as_str() == lines)

@@ -1,6 +1,6 @@
 use crate::trees::{passes, tree_of};
 use html_render_tree::RenderError;
-use render_conversion::dom_to_render_tree;
+use render_conversion::{ConversionOptions, dom_to_render_tree};
 use render_sizes::{Extent, Prefixes, asked_extents, measured};
 use std::alloc::{AllocError, Global};
 
@@ -72,7 +72,7 @@ fn are_sizes(alloc: Global, page: &str, all: &str, asked: &str) -> Result<bool, 
     let Ok(dom) = tree_of(alloc, page) else {
         return Ok(false);
     };
-    let tree = dom_to_render_tree(alloc, &dom, &[])?;
+    let tree = dom_to_render_tree(alloc, &dom, ConversionOptions::default(), &[])?;
     let sizes = measured(alloc, &Steady, 3, &tree)?;
     let are_all = are_lines(alloc, sizes.as_slice(), all)?;
     let sizes = asked_extents(alloc, &Steady, 3, &tree)?;
