@@ -1,5 +1,5 @@
 //! The program `html2text`: what it writes of a page, what it answers to the words of its command line, and how it
-//! ends; with the libraries that it stands on, `page_config`, `command_line` and `command_line`, and with articles.
+//! ends; with the libraries that it stands on, `page_config` and `command_line`, and with articles.
 //!
 //! # What is proved
 //!

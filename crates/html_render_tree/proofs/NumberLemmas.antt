@@ -374,5 +374,6 @@ values_numbered o styles place (node kind kids rest) =
     (values_numbered o styles place rest))
     (values_numbered o styles place rest)
 
-pub pages_numbered : (o : ConversionOptions) (rules : List StyleRule) (f : Forest) → AreNumbered (document_values o rules f)
+pub pages_numbered : (o : ConversionOptions) (rules : List StyleRule) (f : Forest) →
+    AreNumbered (document_values o rules f)
 pages_numbered o rules f = values_numbered o (styles_of rules) places.Flow (trees f (0 ∷ []))

@@ -354,10 +354,12 @@ impl<D: TextDecorator + Drop> RenderConfig<D> {
 
     /// The render tree of a page. The error is `Fail` exactly where the page has none, else allocation failure.
     pub fn dom_to_render_tree(&self, alloc: Global, dom: &RcDom) -> Result<RenderTree, RenderError>
-        ensures tree { IfOk result (λ tree. tree ≡ document_values (conversion_of self.now) (rules_of self.now) dom.now.forest) }
+        ensures tree { IfOk result (λ tree. tree ≡ document_values (conversion_of self.now) (rules_of self.now)
+            dom.now.forest) }
         ensures some { IfOk result (λ tree. tree ≢ none) }
         ensures numbered { IfOk result (λ tree. AreNumbered tree) }
-        ensures fail { result ≡ Err errors.Fail → document_values (conversion_of self.now) (rules_of self.now) dom.now.forest ≡ none }
+        ensures fail { result ≡ Err errors.Fail → document_values (conversion_of self.now) (rules_of self.now)
+            dom.now.forest ≡ none }
         ensures kinds { result ≢ Err errors.TooNarrow }
     {
         pages_are_numbered();

@@ -18,7 +18,8 @@ use Rattle.html_render_tree.specs.WalkLaws.{AreNumbered}
 
 module _ {T H A : Type 0} (m : Marking H A) (seen : T → A) (closes : H → List (List ℕ) → List (List (Item T)))
   where
-    pub within_width : ((o : ConversionOptions) (rules : List StyleRule) (f : Forest) → AreNumbered (document_values o rules f))
+    pub within_width : ((o : ConversionOptions) (rules : List StyleRule) (f : Forest) →
+        AreNumbered (document_values o rules f))
         → PagesKeepWidth m seen closes → (c : PageSetting H) (width : ℕ) (bytes : List ℕ)
         (shown : List (List (Item (List A)))) → IsSteady m.mark_text → c.rendering.options.allow_width_overflow ≡ false
         → c.rendering.options.wrap_links ≡ true → 2 ≤ width → HasAnswer m seen closes c width bytes (lines shown)
@@ -28,7 +29,8 @@ module _ {T H A : Type 0} (m : Marking H A) (seen : T → A) (closes : H → Lis
         steady (subst AreNumbered has.page.same (numbered c.conversion c.rules has.page.forest)) off wrapped wide
         has.answered.1.1
 
-    pub text_within : ((o : ConversionOptions) (rules : List StyleRule) (f : Forest) → AreNumbered (document_values o rules f))
+    pub text_within : ((o : ConversionOptions) (rules : List StyleRule) (f : Forest) →
+        AreNumbered (document_values o rules f))
         → PagesKeepWidth m seen closes → (c : PageSetting H) (width : ℕ) (bytes text : List ℕ)
         → IsSteady m.mark_text → c.rendering.options.allow_width_overflow ≡ false
         → c.rendering.options.wrap_links ≡ true → 2 ≤ width → HasText m seen closes c width bytes text

@@ -13,8 +13,9 @@ use Rattle.block_trait.specs.Defaults.{default_options}
 use Rattle.block_trait.specs.declared.options.RenderOptions.{RenderOptions}
 use Rattle.dom_styles.specs.declared.rules.StyleRule.{StyleRule}
 
--- the table of references and the options by which a page is parsed; what is asked of its conversion, the rules of style,
--- and what it is rendered by; and whether the rules that mark emphasis, strong text, terms and code were asked for
+-- the table of references and the options by which a page is parsed; what is asked of its conversion, the rules of
+-- style, and what it is rendered by; and whether the rules that mark emphasis, strong text, terms and code were asked
+-- for
 pub record PageSetting (H : Type 0) : Type 0 where
   pub table : References
   pub parsing : ParseOpts

@@ -269,11 +269,11 @@ impl<D: TextDecorator + Drop> Config<D> {
         }
     }
 
-    /// Whether pages are shown completely: with the rows of complete pages before the others of the table of conversion,
-    /// and parsed without scripting, so that what stands in `noscript` is read as elements. A rule for `hr`, captions
-    /// and feet of tables, quotation marks for `q`, the texts of drawings, blocks that stand in lines of their own, and
-    /// nothing for what browsers don't render. By default pages aren't, and are parsed with scripting; `parse_opts`
-    /// after it says otherwise.
+    /// Whether pages are shown completely: with the rows of complete pages before the others of the table of
+    /// conversion, and parsed without scripting, so that what stands in `noscript` is read as elements. A rule for
+    /// `hr`, captions and feet of tables, quotation marks for `q`, the texts of drawings, blocks that stand in lines of
+    /// their own, and nothing for what browsers don't render. By default pages aren't, and are parsed with scripting;
+    /// `parse_opts` after it says otherwise.
     pub fn complete(self, complete: bool) -> Config<D>
         ensures setting { page_setting D.view result ≡ record (page_setting D.view self) {
           conversion = record (page_setting D.view self).conversion { pages = pages_of complete };

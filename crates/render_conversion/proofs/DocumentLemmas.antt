@@ -26,7 +26,8 @@ document_is o rules f d turns none nodes empty first is end start done =
     ∙ (ap (λ l. l ++ flat (values o (styles_of rules) Flow (trees f (number_of d ∷ [])))) start
     ∙ ap (λ n. flat (values o (styles_of rules) Flow (trees f (n ∷ [])))) first))
 
-pub document_read : (o : ConversionOptions) (rules : List StyleRule) (f : Forest) (nodes : List RenderNode) (tree : Values)
+pub document_read : (o : ConversionOptions) (rules : List StyleRule) (f : Forest) (nodes : List RenderNode)
+    (tree : Values)
     → nodes ≡ flat (document_values o rules f) → tree ≡ values_of nodes → tree ≡ document_values o rules f
 document_read o rules f nodes tree is same = same ∙ (ap values_of is ∙ read_back (document_values o rules f))
 

@@ -1,15 +1,16 @@
 -- White space, words and declarations, one step more at a time.
-use Rattle.std.proofs.Common.{◌≡◌, ◌≢◌, ◌+◌, ◌<◌, ◌≤◌, ◌||◌, ◌&&◌, [], ◌∷◌, ◌∙◌, Bool, IfSome, IsTrue, IsUtf8, List, None}
-use Rattle.std.proofs.Common.{Option, Some, ap, arith, chars, drop, eqb, false, if◌then◌else◌, length, length-drop, not}
+use Rattle.std.proofs.Common.{◌≡◌, ◌≢◌, ◌+◌, ◌<◌, ◌≤◌, ◌||◌, ◌&&◌, [], ◌∷◌, ◌∙◌, Bool, IfSome, IsTrue, IsUtf8, List}
+use Rattle.std.proofs.Common.{None}
+use Rattle.std.proofs.Common.{Option, Some, ap, arith, chars, drop, eqb, false, if◌then◌else◌, length, length-drop}
 use Rattle.std.proofs.Common.{encode_utf8_all, refl, slice_index_or, subst, suc, sym, true, ℕ, ◌==◌}
 use Rattle.std.specs.Borrow.{Bor}
 use Rattle.std.specs.Char.{is_ascii_whitespace}
-use Rattle.std.specs.List.{list_all, list_any}
+use Rattle.std.specs.List.{list_any}
 use Rattle.std.specs.Option.{option_and_then}
 use Rattle.std.proofs.lemmas.Bool.{and_parts, ne_eqb}
 use Rattle.std.proofs.lemmas.List.{drop_more, nil_from_length}
 use Rattle.std.proofs.lemmas.Str.{chars-nil, encodes-chars}
-use Rattle.token_grammar.specs.Slices.{Cut, after, after_word, cut, cut_here, longer, rest_while}
+use Rattle.token_grammar.specs.Slices.{Cut, after, after_word, cut, cut_here}
 use Rattle.tree_names.specs.Sets.{are_ascii, is_ascii_word, words_of}
 use Rattle.tree_predicates.proofs.WordLemmas.{word_chars}
 use Rattle.render_conversion.specs.Hiding.{after_words, declarations, first_longer, is_blank, is_display_none, trimmed}
@@ -24,7 +25,8 @@ some_nil (c ∷ cs) h = refl
 
 no_bytes : (bs : List ℕ) → IsUtf8 bs → eqb (length bs) 0 ≡ is_nil (chars bs)
 no_bytes [] u = ap is_nil (sym chars-nil)
-no_bytes (b ∷ bs) u = ne_eqb (length (b ∷ bs)) 0 (λ e. absurd (omega (arith, e))) ∙ some_nil (chars (b ∷ bs)) (λ e. absurd (let k : b ∷ bs ≡ [] =
+no_bytes (b ∷ bs) u = ne_eqb (length (b ∷ bs)) 0 (λ e. absurd (omega (arith, e)))
+    ∙ some_nil (chars (b ∷ bs)) (λ e. absurd (let k : b ∷ bs ≡ [] =
     sym (encodes-chars (b ∷ bs) u) ∙ ap encode_utf8_all e in cc))
 
 blank_step : (b : Bool) (c : ℕ) (cs : List ℕ) → is_blank cs ≡ is_nil (trimmed cs)

@@ -5,8 +5,7 @@ use Rattle.std.proofs.Common.{refl, subst, sym, take, true, ℕ}
 use Rattle.std.proofs.lemmas.List.{take-append-le}
 use Rattle.tree_forest.specs.Trees.{node, trees}
 use Rattle.tree_forest.specs.Forest.{Forest, Kind, children_at, kind_at}
-use Rattle.html_render_dom.specs.ChildNodes.{children_left}
-use Rattle.html_render_dom.specs.Numbers.{handle_of, number_of}
+use Rattle.html_render_dom.specs.Numbers.{number_of}
 use Rattle.html_render_dom.specs.declared.node.Handle.{Handle}
 use Rattle.render_values.specs.Arena.{IsFlat, flat, values_of}
 use Rattle.render_values.specs.Closing.{closed, closed_at, ended_first, ending_first}
@@ -23,7 +22,7 @@ use Rattle.render_values.specs.declared.node.RenderNode.{RenderNode}
 use Rattle.render_values.specs.declared.style.RenderStyle.{RenderStyle}
 use Rattle.std.specs.Prelude.{Option, None, Some}
 use Rattle.render_values.proofs.ArenaLemmas.{flat_by, flat_is, flat_joined}
-use Rattle.render_conversion.specs.Conversion.{around, content, content_by, inside_of, value_before, valued, values}
+use Rattle.render_conversion.specs.Conversion.{content, content_by, inside_of, value_before, valued, values}
 use Rattle.render_conversion.specs.Inner.{children_in, closing, opening, place_of, table_head, table_parts, table_value}
 use Rattle.render_conversion.specs.Heads.{head_of}
 use Rattle.render_conversion.specs.Meanings.{meaning}
@@ -37,7 +36,8 @@ use Rattle.render_conversion.specs.declared.options.Pages.{Pages}
 use Rattle.render_conversion.specs.declared.kinds.Meaning.{Meaning}
 use Rattle.render_conversion.specs.declared.options.ConversionOptions.{ConversionOptions}
 use Rattle.render_conversion.specs.declared.place.Place.{Place}
-use Rattle.render_conversion.specs.declared.place.Place.TheVariants.{Captions, Cells, Feet, Flow, Groups, Items, Nowhere, Rows}
+use Rattle.render_conversion.specs.declared.place.Place.TheVariants.{Captions, Cells, Feet, Flow, Groups, Items}
+use Rattle.render_conversion.specs.declared.place.Place.TheVariants.{Nowhere, Rows}
 use Rattle.render_conversion.specs.declared.turns.Turn.{Turn}
 use Rattle.render_conversion.specs.declared.turns.Turn.TheVariants.{After, Close, Closing, Row, Table, Visit}
 
@@ -123,7 +123,8 @@ weight_visits f place [] ts law = omega arith
 weight_visits f place (n ∷ ns) ts law = refl
 
 -- the first of some nodes is visited, and then the others
-row_later : (o : ConversionOptions) (styles : Styles) (f : Forest) (place : Place) (n : Handle) (others : List ℕ) (ts : List Turn)
+row_later : (o : ConversionOptions) (styles : Styles) (f : Forest) (place : Place) (n : Handle) (others : List ℕ)
+    (ts : List Turn)
     (xs : List RenderNode) → Law f
     → later o styles f (Visit n place ∷ visits place others ++ ts) xs ≡ later o styles f (Row n others place ∷ ts) xs
 row_later o styles f place n others ts xs law =
@@ -145,7 +146,8 @@ pub row_open : (place : Place) (others : List ℕ) (ts put : List Turn) (xs : Li
     → put ≡ visits place others ++ ts → AreOpen xs ts → AreOpen xs put
 row_open place others ts put xs e h = subst (AreOpen xs) (sym e) (open_visits place others ts xs h)
 
-pub row_done : {A : Type 0} {E : Type 0} (r : Result A E) (o : ConversionOptions) (styles : Styles) (f : Forest) (n : Handle)
+pub row_done : {A : Type 0} {E : Type 0} (r : Result A E) (o : ConversionOptions) (styles : Styles) (f : Forest)
+    (n : Handle)
     (others : List ℕ) (place : Place) (ts put new : List Turn) (xs ys : List RenderNode) → Law f
     → put ≡ visits place others ++ ts → OnOk r (IsDone o styles f (Visit n place ∷ put) xs new ys)
     → OnOk r (IsDone o styles f (Row n others place ∷ ts) xs new ys)
@@ -198,7 +200,8 @@ flat_ended o (x ∷ xs) = flat_is (ended o x.head (values_of xs) none)
 
 -- ---- the ways in which a turn is taken
 
-close_done : (o : ConversionOptions) (styles : Styles) (f : Forest) (opened : Opened) (ts : List Turn) (xs ys : List RenderNode)
+close_done : (o : ConversionOptions) (styles : Styles) (f : Forest) (opened : Opened) (ts : List Turn)
+    (xs ys : List RenderNode)
     → AreOpen xs (Close opened ∷ ts) → ys ≡ closed opened xs → IsDone o styles f (Close opened ∷ ts) xs ts ys
 close_done o styles f opened ts xs ys h e =
     let front = take opened.at xs in
@@ -213,7 +216,8 @@ close_done o styles f opened ts xs ys h e =
     }
 
 -- a node without a value
-nothing_done : (o : ConversionOptions) (styles : Styles) (f : Forest) (n : Handle) (place : Place) (ts : List Turn) (xs : List RenderNode)
+nothing_done : (o : ConversionOptions) (styles : Styles) (f : Forest) (n : Handle) (place : Place) (ts : List Turn)
+    (xs : List RenderNode)
     → Law f → values o styles place (trees f (number_of n ∷ [])) ≡ none → AreOpen xs ts → IsFlat xs
     → IsDone o styles f (Visit n place ∷ ts) xs ts xs
 nothing_done o styles f n place ts xs law nothing h k =
@@ -247,7 +251,8 @@ shows true true h k = cc
 shows true false h k = refl
 shows false b h k = cc
 
-left_out : (o : ConversionOptions) (styles : Styles) (f : Forest) (n : Handle) (place : Place) (ts : List Turn) (xs : List RenderNode)
+left_out : (o : ConversionOptions) (styles : Styles) (f : Forest) (n : Handle) (place : Place) (ts : List Turn)
+    (xs : List RenderNode)
     → Law f
     → (is_shown o place (kind_at (number_of n) f) && not (parts_of styles (kind_at (number_of n) f)).itself.hidden)
     ≡ false → AreOpen xs ts → IsFlat xs → IsDone o styles f (Visit n place ∷ ts) xs ts xs
@@ -276,7 +281,8 @@ hidden_done o styles f n place ts xs style law is test h k =
     (sym (ap (λ (p : Parts). p.itself.hidden) is) ∙ test)) h k
 
 -- a text after a node's children
-after_done : (o : ConversionOptions) (styles : Styles) (f : Forest) (n : Handle) (place : Place) (ts : List Turn) (xs ys : List RenderNode)
+after_done : (o : ConversionOptions) (styles : Styles) (f : Forest) (n : Handle) (place : Place) (ts : List Turn)
+    (xs ys : List RenderNode)
     → AreOpen xs ts → IsFlat xs
     → ys ≡ xs ++ flat (content place (parts_of styles (kind_at (number_of n) f)).after)
     → IsDone o styles f (After n place ∷ ts) xs ts ys
@@ -626,7 +632,8 @@ visit_after (Ok v) o styles f n place m guarded at ts one two more new xs ys ws 
     (sym (ap (λ (p : Parts). p.itself.hidden) is) ∙ shown) means guards
     (sym (ap (λ (p : Parts). p.after.content) is)) h k))
 
-pub after_ok : {A : Type 0} {E : Type 0} (r : Result A E) (o : ConversionOptions) (styles : Styles) (f : Forest) (n : Handle)
+pub after_ok : {A : Type 0} {E : Type 0} (r : Result A E) (o : ConversionOptions) (styles : Styles) (f : Forest)
+    (n : Handle)
     (place : Place) (ts : List Turn) (xs ys : List RenderNode) (style : Parts) → AreOpen xs ts → IsFlat xs
     → style ≡ parts_of styles (kind_at (number_of n) f) → OnOk r (ys ≡ xs ++ flat (content place style.after))
     → OnOk r (IsDone o styles f (After n place ∷ ts) xs ts ys)
@@ -635,7 +642,8 @@ after_ok (Ok v) o styles f n place ts xs ys style h k is done =
     after_done o styles f n place ts xs ys h k
     (done ∙ ap (λ (p : Parts). xs ++ flat (content place p.after)) is)
 
-pub close_by : {A : Type 0} {E : Type 0} (r : Result A E) (o : ConversionOptions) (styles : Styles) (f : Forest) (turn : Turn)
+pub close_by : {A : Type 0} {E : Type 0} (r : Result A E) (o : ConversionOptions) (styles : Styles) (f : Forest)
+    (turn : Turn)
     (opened : Opened) (ts : List Turn) (xs ys : List RenderNode) → turn ≡ Close opened → AreOpen xs (turn ∷ ts)
     → OnOk r (ys ≡ closed opened xs) → OnOk r (IsDone o styles f (turn ∷ ts) xs ts ys)
 close_by (Err e) o styles f turn opened ts xs ys is h done = tt

@@ -1,17 +1,16 @@
 -- Rows of the table of conversion that complete pages have before the others.
-use Rattle.std.specs.Prelude.{◌≡◌, ℕ, List, [], ◌∷◌, None, Some, codes, map}
+use Rattle.std.specs.Prelude.{◌≡◌, ℕ, List, [], ◌∷◌, Some, codes, map}
 use Rattle.tree_forest.specs.Trees.{Trees}
 use Rattle.tree_forest.specs.Trees as of_trees
 use Rattle.render_values.specs.Looks.{plain}
-use Rattle.render_values.specs.Values.{Values, none, value}
-use Rattle.render_values.specs.declared.info.RenderInfo.{RenderInfo}
+use Rattle.render_values.specs.Values.{Values, none}
 use Rattle.render_values.specs.declared.info.RenderInfo.TheVariants as infos
 use Rattle.render_conversion.specs.Conversion.{values}
 use Rattle.render_conversion.specs.ListRows.{target}
 use Rattle.render_conversion.specs.Options.{default_conversion}
 use Rattle.render_conversion.specs.RowTrees.{alone, attribute, beside, holding, html, marked, no_rules, shown, svg}
 use Rattle.render_conversion.specs.RowTrees.{words}
-use Rattle.render_conversion.specs.StyleRows.{looking, marks, of_one, saying}
+use Rattle.render_conversion.specs.StyleRows.{looking, of_one, saying}
 use Rattle.render_conversion.specs.Styles.{Styles, all_unset}
 use Rattle.text_pieces.specs.declared.white_space.WhiteSpace.TheVariants.{Pre}
 use Rattle.render_conversion.specs.declared.options.Pages.TheVariants.{Complete}

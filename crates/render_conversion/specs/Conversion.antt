@@ -1,5 +1,5 @@
 -- The values of a page.
-use Rattle.std.specs.Prelude.{ℕ, ◌&&◌, Bool, not, if◌then◌else◌, List, [], ◌∷◌, Option, None, Some}
+use Rattle.std.specs.Prelude.{ℕ, ◌&&◌, Bool, not, if◌then◌else◌, List, [], ◌∷◌, Option, Some}
 use Rattle.std.specs.Char.{is_whitespace}
 use Rattle.std.specs.List.{list_all}
 use Rattle.tree_forest.specs.Trees.{Trees, node, trees}
@@ -7,8 +7,7 @@ use Rattle.tree_forest.specs.Trees as of_trees
 use Rattle.tree_forest.specs.Forest.{Forest, Kind}
 use Rattle.dom_styles.specs.declared.rules.StyleRule.{StyleRule}
 use Rattle.render_values.specs.Endings.{ended, ending}
-use Rattle.render_values.specs.Values.{Values, joined, none, value}
-use Rattle.render_values.specs.declared.info.RenderInfo.TheVariants as infos
+use Rattle.render_values.specs.Values.{Values, joined, none}
 use Rattle.render_values.specs.declared.style.RenderStyle.{RenderStyle}
 use Rattle.render_conversion.specs.Heads.{head_of}
 use Rattle.render_conversion.specs.Inner.{children_in, closing, opening, text_value}

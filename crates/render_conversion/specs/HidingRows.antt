@@ -1,13 +1,12 @@
 -- Rows of the table of conversion: elements that hide themselves, where these are left out.
 use Rattle.std.specs.Prelude.{◌≡◌, ℕ, true, List, [], ◌∷◌, codes, map}
 use Rattle.tree_forest.specs.Trees.{Trees}
-use Rattle.tree_forest.specs.Trees as of_trees
 use Rattle.html_lexemes.specs.declared.names.Attribute.{Attribute}
 use Rattle.render_values.specs.Values.{Values, none}
 use Rattle.render_values.specs.declared.info.RenderInfo.TheVariants as infos
 use Rattle.render_conversion.specs.Conversion.{values}
 use Rattle.render_conversion.specs.Options.{default_conversion}
-use Rattle.render_conversion.specs.RowTrees.{alone, attribute, beside, holding, html, no_rules, shown, without_rules, words}
+use Rattle.render_conversion.specs.RowTrees.{attribute, beside, holding, html, no_rules, shown, without_rules, words}
 use Rattle.render_conversion.specs.declared.place.Place.TheVariants.{Flow}
 
 abbrev pub without_hidden : Trees → Values
@@ -54,8 +53,8 @@ important_row =
 abbrev pub other_style_row : Type 0
 other_style_row =
     are_shown (codes "style")
-    ([] ∷ codes "display:block" ∷ codes "display none" ∷ codes "display::none" ∷ codes "display:none:" ∷ codes "display:"
-    ∷ codes "display:none!" ∷ codes "display:none important" ∷ codes "display:none!important!"
+    ([] ∷ codes "display:block" ∷ codes "display none" ∷ codes "display::none" ∷ codes "display:none:"
+    ∷ codes "display:" ∷ codes "display:none!" ∷ codes "display:none important" ∷ codes "display:none!important!"
     ∷ codes "display:none inline" ∷ codes "x-display:none" ∷ codes "displays:none" ∷ codes "visibility:hidden"
     ∷ codes "/**/display:none" ∷ codes "dis;play:none" ∷ [])
 

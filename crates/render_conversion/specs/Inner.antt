@@ -1,6 +1,5 @@
 -- What stands in an element's value: the values of its children at a place, between texts, or the parts of a table.
 use Rattle.std.specs.Prelude.{ℕ, Bool, false, true, List, [], ◌∷◌, None}
-use Rattle.render_values.specs.Cells.{has_cells}
 use Rattle.render_values.specs.Endings.{ended, ending}
 use Rattle.render_values.specs.Looks.{plain}
 use Rattle.render_values.specs.Values.{Values, joined, none, value}

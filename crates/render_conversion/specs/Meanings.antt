@@ -19,7 +19,7 @@ use Rattle.render_conversion.specs.declared.kinds.Meaning.{Meaning}
 use Rattle.render_conversion.specs.declared.options.Pages.{Pages}
 use Rattle.render_conversion.specs.declared.options.Pages.TheVariants.{Complete, Plain}
 use Rattle.render_conversion.specs.declared.place.Place.{Place}
-use Rattle.render_conversion.specs.declared.place.Place.TheVariants.{Captions, Cells, Feet, Flow, Groups, Items, Nowhere, Rows}
+use Rattle.render_conversion.specs.declared.place.Place.TheVariants.{Captions, Cells, Feet, Flow, Groups, Items, Rows}
 
 -- `a`: with a target a link, where a child shows something
 abbrev pub linked : (target : Option (List ℕ)) → Meaning

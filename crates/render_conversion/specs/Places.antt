@@ -7,7 +7,8 @@ use Rattle.render_conversion.specs.ElementNames.{is_one_of}
 use Rattle.render_conversion.specs.Hiding.{is_hidden}
 use Rattle.render_conversion.specs.declared.options.ConversionOptions.{ConversionOptions}
 use Rattle.render_conversion.specs.declared.place.Place.{Place}
-use Rattle.render_conversion.specs.declared.place.Place.TheVariants.{Captions, Cells, Feet, Flow, Groups, Items, Nowhere, Rows}
+use Rattle.render_conversion.specs.declared.place.Place.TheVariants.{Captions, Cells, Feet, Flow, Groups, Items}
+use Rattle.render_conversion.specs.declared.place.Place.TheVariants.{Nowhere, Rows}
 
 abbrev pub has_name : List (List ℕ) → Option QualName → Bool
 has_name words None = false

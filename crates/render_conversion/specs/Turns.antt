@@ -87,7 +87,8 @@ children_turns TableParts n ns ts = visits Groups ns ++ (visits Feet ns ++ ts)
 children_turns Captioned n ns ts = visits Captions ns ++ Table n ∷ ts
 
 -- a turn was done: with what is left the nodes come to the same
-pub record IsDone (o : ConversionOptions) (styles : Styles) (f : Forest) (old : List Turn) (before : List RenderNode) (new : List Turn)
+pub record IsDone (o : ConversionOptions) (styles : Styles) (f : Forest) (old : List Turn) (before : List RenderNode)
+    (new : List Turn)
     (now : List RenderNode) : Type 0 where
   pub same : later o styles f new now ≡ later o styles f old before
   pub opened : AreOpen now new

@@ -1,6 +1,7 @@
 //! Rows of the table of conversion, computed on its definitions.
 ghost use Rattle.render_conversion.specs.CompletePageRows.{blocks_row, caption_alone_row, captions_row};
-ghost use Rattle.render_conversion.specs.CompletePageRows.{drawn_texts_row, foot_row, icon_row, listings_row, menus_row};
+ghost use Rattle.render_conversion.specs.CompletePageRows.{drawn_texts_row, foot_row, icon_row, listings_row};
+ghost use Rattle.render_conversion.specs.CompletePageRows.{menus_row};
 ghost use Rattle.render_conversion.specs.CompletePageRows.{open_dialog_row, quotation_row, rule_row, span_of_text_row};
 ghost use Rattle.render_conversion.specs.CompletePageRows.{titled_drawing_row, undrawn_row, unread_row};
 ghost use Rattle.render_conversion.specs.ElementRows.{break_row, code_row, comment_row, digits_row, division_row};

@@ -9,5 +9,6 @@ returns-clause-tree c =
 
 pub returns-then-is_empty-clause-fail : goal.returns-then-is_empty-clause-fail
 returns-then-is_empty-clause-fail c = λ _.
-    none_read c.args.options c.args.rules.now c.args.dom.now.forest c.in_ok-nodes.nodes.items (vec_len c.in_ok-nodes.nodes)
+    none_read c.args.options c.args.rules.now c.args.dom.now.forest c.in_ok-nodes.nodes.items
+    (vec_len c.in_ok-nodes.nodes)
     c.in_ok-nodes.ensures.values c.in_ok-nodes.nodes.ok.0 (sym c.is_empty.ensures ∙ c.if-is_empty.true)

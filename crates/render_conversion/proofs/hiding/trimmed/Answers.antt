@@ -1,7 +1,7 @@
 use Rattle.std.proofs.Common.{refl, ap, sym, ◌∙◌, chars}
 use Rattle.std.specs.Char.{is_ascii_whitespace}
 use Rattle.token_grammar.proofs.MarkLemmas.{shorter}
-use Rattle.token_grammar.proofs.SliceLemmas.{rest_off, rest_on}
+use Rattle.token_grammar.proofs.SliceLemmas.{rest_on}
 use Rattle.render_conversion.specs.Hiding.{trimmed}
 use Rattle.render_conversion.proofs.hiding.trimmed.Goals as goal
 

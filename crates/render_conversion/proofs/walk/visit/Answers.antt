@@ -9,14 +9,16 @@ use Rattle.render_conversion.proofs.walk.visit.Goals as goal
 
 pub returns-then-not-is_shown : goal.returns-then-not-is_shown
 returns-then-not-is_shown c =
-    unseen_done c.args.options (styles_of c.args.rules.now) c.args.dom.now.forest c.args.node c.args.place c.args.turns.now
+    unseen_done c.args.options (styles_of c.args.rules.now) c.args.dom.now.forest c.args.node c.args.place
+    c.args.turns.now
     c.args.nodes.now.items
     (λ n ns. c.a_tree_goes_one_step_on.ensures.first c.args.dom.now.forest n ns c.requires.forest)
     (sym c.is_shown.ensures ∙ c.if-not-is_shown.true) c.requires.ordered c.requires.flat
 
 pub returns-then-style : goal.returns-then-style
 returns-then-style c =
-    hidden_done c.args.options (styles_of c.args.rules.now) c.args.dom.now.forest c.args.node c.args.place c.args.turns.now
+    hidden_done c.args.options (styles_of c.args.rules.now) c.args.dom.now.forest c.args.node c.args.place
+    c.args.turns.now
     c.args.nodes.now.items (seen_parts c.style_of-style.result)
     (λ n ns. c.a_tree_goes_one_step_on.ensures.first c.args.dom.now.forest n ns c.requires.forest)
     c.style_of-style.ensures c.if-style.true c.requires.ordered c.requires.flat

@@ -1,4 +1,4 @@
-use Rattle.std.proofs.Common.{◌≡◌, [], ◌++◌, ◌∙◌, List, ap, drop, length, rules, subst, sym, take, take-append-drop, ℕ}
+use Rattle.std.proofs.Common.{◌≡◌, ◌++◌, ◌∙◌, ap, length, rules, subst, sym, take, take-append-drop}
 use Rattle.std.proofs.lemmas.List.{nil_from_length}
 use Rattle.page_reading.specs.Readers.{Comes}
 use Rattle.stored_lines.proofs.pages.tree_of.Goals as goal
