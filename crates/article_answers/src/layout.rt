@@ -113,6 +113,7 @@ fn line_options(config: &Config<PlainDecorator>) -> LineOptions
         decorates: config.decorates(),
         footnotes: options.include_link_footnotes,
         shares_footnotes: options.shared_footnotes,
+        prints_targets: options.printable_targets,
         wraps_links: options.wrap_links,
         min_wrap_width: config.narrowest_wrap(),
     }

@@ -6,7 +6,6 @@ use Rattle.std.specs.List.{list_any}
 use Rattle.std.specs.Option.{option_and_then, option_map}
 use Rattle.text_normal.specs.Letters.{has_marker}
 use Rattle.text_normal.specs.Riders.{normal_lines}
-use Rattle.text_footnotes.specs.Targets.{noted_targets}
 use Rattle.text_pieces.specs.Items.{has_text}
 use Rattle.text_pieces.specs.Sources.{Source, is_filled}
 use Rattle.article_definitions.specs.Showing.{has_visible}
@@ -18,7 +17,8 @@ use Rattle.article_definitions.specs.Exchanges.{in_bullets, in_division, in_item
 use Rattle.article_definitions.specs.Exchanges.{this_heading, this_paragraph}
 use Rattle.render_sizes.specs.Extents.{capped}
 use Rattle.article_definitions.specs.Layouts.{Line, Options, Tag, count, count_items, how_many, if_fits, item_prefix}
-use Rattle.article_definitions.specs.Layouts.{lay, lay_items, layout, least_in, least_of, least_of_items, next_number}
+use Rattle.article_definitions.specs.Layouts.{lay, lay_items, layout, least_in, least_of, least_of_items, listed_targets}
+use Rattle.article_definitions.specs.Layouts.{next_number}
 use Rattle.article_definitions.specs.Layouts.{paragraph_lines, parted, prefixed, quote_prefix, room, room_of_numbers}
 use Rattle.article_definitions.specs.Layouts.{targets_in, targets_of, targets_of_items, to_room, within}
 use Rattle.layout_state.specs.Items.{spaces}
@@ -362,7 +362,7 @@ module _ (o : Options) where
     abbrev with_footnotes : (List (List ℕ) → List Line) → ℕ → List (List ℕ) → List Line → List Line
     with_footnotes footnotes w targets lines =
         if o.footnotes && is_filled targets
-        then parted o w lines ++ footnotes (noted_targets o.shares_footnotes targets) else lines
+        then parted o w lines ++ footnotes (listed_targets o targets) else lines
 
     footnotes_alike : (footnotes : List (List ℕ) → List Line) (w : ℕ) (targets : List (List ℕ)) (b : Bool)
         (ls ms : List Line) → Alike number ls ms →
@@ -391,4 +391,4 @@ module _ (o : Options) where
         (subst (λ m. Alike number (with_footnotes footnotes w ta u.0) m) v.2
         (subst (λ t. Alike number (with_footnotes footnotes w ta u.0) (with_footnotes footnotes w t v.0))
         (same_links number 0 a b d)
-        (footnotes_alike footnotes w (noted_targets o.shares_footnotes ta) (o.footnotes && is_filled ta) u.0 v.0 al))))
+        (footnotes_alike footnotes w (listed_targets o ta) (o.footnotes && is_filled ta) u.0 v.0 al))))

@@ -9,8 +9,9 @@ use Rattle.article_values.specs.Articles.{Blocks}
 use Rattle.article_definitions.specs.BlockCalls.{add_notes, awaits_after, noted, run_blocks, run_notes}
 use Rattle.article_definitions.specs.Calls.{cell_of, measure}
 use Rattle.article_definitions.specs.Layouts.{Line, Options, Tag, lay, layout, note_line, notes, notes_from, outermost}
-use Rattle.article_definitions.specs.Layouts.{parted, targets_of}
+use Rattle.article_definitions.specs.Layouts.{listed_targets, parted, targets_of}
 use Rattle.text_footnotes.specs.Footnotes.{footnote_lines}
+use Rattle.text_footnotes.proofs.PrintableLemmas.{shown_filled}
 use Rattle.text_footnotes.specs.Targets.{has_text, noted_targets, with_text}
 use Rattle.text_lines.specs.Tagged.{Item, tagged}
 use Rattle.text_borders.specs.Across.{CellLine}
@@ -135,6 +136,7 @@ module _ (kept : KeepsMarkers) (o : Options) (width : ℕ) where
   pub whole_called : (a : Blocks) → option_map (λ (b : Laid Tag). b.lines) (option_and_then (flush m outermost)
       (option_and_then (run_notes o width (noted o (targets_of o a))) (run_blocks o width [] a nothing_laid)))
       ≡ option_map (map cell_of) (layout o (notes o width) width a)
-  whole_called a = called (targets_of o a) (noted_targets o.shares_footnotes (targets_of o a)) o.footnotes
+  whole_called a = called (targets_of o a) (listed_targets o (targets_of o a)) o.footnotes
       (awaits_after a false) (run_blocks o width [] a nothing_laid) (lay o width 0 [] a [])
-      (some_stand o.shares_footnotes (targets_of o a)) (blocks_called kept o width 0 [] a [] false)
+      (shown_filled o.prints_targets (noted_targets o.shares_footnotes (targets_of o a))
+      ∙ some_stand o.shares_footnotes (targets_of o a)) (blocks_called kept o width 0 [] a [] false)

@@ -4,7 +4,6 @@ use Rattle.std.specs.Prelude.{replicate, suc, true, ℕ, ℤ}
 use Rattle.std.specs.Option.{option_and_then, option_map}
 use Rattle.block_layout.specs.Laid.{Laid, add_block, add_text_lines, end_block, flush, nothing_laid, start_block}
 use Rattle.text_footnotes.specs.Footnotes.{footnote_lines}
-use Rattle.text_footnotes.specs.Targets.{noted_targets}
 use Rattle.text_lines.specs.Tagged.{tagged}
 use Rattle.text_decorators.specs.Texts.{footnote_text}
 use Rattle.layout_state.specs.Items.{spaces}
@@ -13,6 +12,7 @@ use Rattle.article_values.specs.Articles.{Blocks, Items, bullets, division, head
 use Rattle.article_values.specs.Articles.{paragraph, quote}
 use Rattle.article_definitions.specs.Calls.{measure, run, run_whole}
 use Rattle.article_definitions.specs.Layouts.{Options, Tag, how_many, item_prefix, least_in, least_of, least_of_items}
+use Rattle.article_definitions.specs.Layouts.{listed_targets}
 use Rattle.article_definitions.specs.Layouts.{next_number, outermost, parts_of, quote_prefix, room, room_of_numbers}
 use Rattle.article_definitions.specs.Layouts.{targets_in, targets_of, targets_of_items, to_room}
 
@@ -90,4 +90,4 @@ run_notes o width (target ∷ targets) b = option_map (add_notes o width 1 (targ
 
 -- those that stand there
 abbrev pub noted : Options → List (List ℕ) → List (List ℕ)
-noted o targets = if o.footnotes then noted_targets o.shares_footnotes targets else []
+noted o targets = if o.footnotes then listed_targets o targets else []

@@ -6,6 +6,7 @@ use Rattle.std.specs.Fmt.{decimal, signed_decimal}
 use Rattle.std.specs.List.{list_all, list_any}
 use Rattle.std.specs.Option.{option_map, option_and_then}
 use Rattle.text_footnotes.specs.Footnotes.{footnote_lines}
+use Rattle.text_footnotes.specs.Printable.{shown_targets}
 use Rattle.text_footnotes.specs.Targets.{last_number, noted_targets}
 use Rattle.text_normal.specs.Riders.{has_wide_text, normal_lines}
 use Rattle.text_lines.specs.Tagged.{Item, tagged}
@@ -27,6 +28,7 @@ pub record Options : Type 0 where
   pub decorates : Bool
   pub footnotes : Bool
   pub shares_footnotes : Bool
+  pub prints_targets : Bool
   pub wraps_links : Bool
   pub min_wrap_width : ℕ
 
@@ -318,11 +320,15 @@ abbrev mutual
       (lines ++ prefixed o width (to_room columns (item_prefix at)) (spaces columns) new))
       (option_and_then (λ within. lay o within k ts kids []) (room width columns least))
 
+-- the targets that have footnotes, as they stand there
+abbrev pub listed_targets : Options → List (List ℕ) → List (List ℕ)
+listed_targets o targets = shown_targets o.prints_targets (noted_targets o.shares_footnotes targets)
+
 -- the whole article: `footnotes` are the lines of targets
 abbrev pub layout : Options → (List (List ℕ) → List Line) → ℕ → Blocks → Option (List Line)
 layout o footnotes width blocks =
     option_map (λ lines. (if o.footnotes && is_filled (targets_of o blocks)
-    then parted o width lines ++ footnotes (noted_targets o.shares_footnotes (targets_of o blocks)) else lines))
+    then parted o width lines ++ footnotes (listed_targets o (targets_of o blocks)) else lines))
     (lay o width 0 [] blocks [])
 
 -- ---- the targets after the last block

@@ -9,6 +9,7 @@ options_of o = record {
   decorates = o.decorates;
   footnotes = o.footnotes;
   shares_footnotes = o.shares_footnotes;
+  prints_targets = o.prints_targets;
   wraps_links = o.wraps_links;
   min_wrap_width = o.min_wrap_width;
 }

@@ -6,12 +6,11 @@ use Rattle.std.specs.Option.{option_map, option_and_then}
 use Rattle.article_definitions.specs.Layouts.{Line, Options, Tag, all_shallow, how_many, item_prefix, least_in}
 use Rattle.article_definitions.specs.Layouts.{least_of, least_of_items, mark_of, next_number, notes, number_mark}
 use Rattle.article_definitions.specs.Layouts.{paragraph_lines, parted, prefixed, quote_prefix, room, room_of_numbers}
-use Rattle.article_definitions.specs.Layouts.{targets_in, to_room, within}
+use Rattle.article_definitions.specs.Layouts.{listed_targets, targets_in, to_room, within}
 use Rattle.article_values.specs.Articles.{Blocks, Inlines, Items, Style, bullets, division, heading, item, line_break}
 use Rattle.article_values.specs.Articles.{link, no_blocks, no_inlines, no_items, numbers, paragraph, quote, span, words}
 use Rattle.block_layout.specs.Laid.{Laid, add_text, break_line}
 use Rattle.block_layout.specs.declared.measure.Measure.{Measure}
-use Rattle.text_footnotes.specs.Targets.{noted_targets}
 use Rattle.layout_state.specs.Items.{spaces}
 use Rattle.render_sizes.specs.Extents.{capped}
 use Rattle.text_pieces.specs.Sources.{is_filled}
@@ -142,4 +141,4 @@ abbrev mutual
 abbrev pub with_notes : Options → ℕ → List (List ℕ) → List Line → List Line
 with_notes o width targets lines =
     if o.footnotes && is_filled targets
-    then parted o width lines ++ notes o width (noted_targets o.shares_footnotes targets) else lines
+    then parted o width lines ++ notes o width (listed_targets o targets) else lines

@@ -14,7 +14,7 @@ ghost use Rattle.text_pieces.specs.Sources.{names};
 use crate::line_list::{Line, LineList, fill};
 use crate::options::Room;
 use std::alloc::{AllocError, Global};
-use text_footnotes::{LinkTargets, footnote_lines, links_share_footnotes};
+use text_footnotes::{LinkTargets, footnote_lines, links_share_footnotes, shown_targets};
 use text_lines::TaggedLine;
 use text_pieces::has_text;
 
@@ -37,7 +37,8 @@ pub(crate) fn add_footnotes(
         return Ok(());
     }
     lines.part(alloc, room)?;
-    add_notes(alloc, room, noted.as_slice(), lines)
+    let shown = shown_targets(noted, room.options.prints_targets)?;
+    add_notes(alloc, room, shown.as_slice(), lines)
 }
 
 /// Adds the targets, numbered from 1 on.

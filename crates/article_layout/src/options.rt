@@ -21,6 +21,8 @@ pub struct LineOptions {
     pub footnotes: bool,
     /// Whether links to equal targets share one number and one footnote.
     pub shares_footnotes: bool,
+    /// Whether the unprintable characters of these targets are percent-encoded.
+    pub prints_targets: bool,
     /// Whether these targets are cut at the width.
     pub wraps_links: bool,
     /// So narrow, in columns, may text be wrapped.

@@ -20,6 +20,7 @@ options_of given decorates min_wrap = record {
   decorates = decorates;
   footnotes = given.include_link_footnotes;
   shares_footnotes = given.shared_footnotes;
+  prints_targets = given.printable_targets;
   wraps_links = given.wrap_links;
   min_wrap_width = min_wrap;
 }

@@ -14,6 +14,7 @@ default_options = record {
   wrap_links = true;
   include_link_footnotes = false;
   shared_footnotes = false;
+  printable_targets = false;
   use_unicode_strikeout = true;
   img_mode = IgnoreEmpty;
 }

@@ -21,6 +21,9 @@ pub struct RenderOptions {
     pub include_link_footnotes: bool,
     /// Whether links to equal targets share one number and one footnote, where targets stand after the text.
     pub shared_footnotes: bool,
+    /// Whether the unprintable characters of targets (a control, a line or paragraph separator, or one that sets the
+    /// direction of text) are percent-encoded, where targets stand after the text.
+    pub printable_targets: bool,
     /// Whether U+0336 strikes out each character of struck text.
     pub use_unicode_strikeout: bool,
     /// How an image with an empty title is rendered.
@@ -59,6 +62,7 @@ impl Default for RenderOptions {
             wrap_links: true,
             include_link_footnotes: false,
             shared_footnotes: false,
+            printable_targets: false,
             use_unicode_strikeout: true,
             img_mode: ImageRenderMode::IgnoreEmpty,
         }

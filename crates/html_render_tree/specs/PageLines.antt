@@ -2,6 +2,7 @@
 use Rattle.std.specs.Prelude.{ℕ, Bool, List, [], ◌∷◌, ◌++◌, Option, Some, if◌then◌else◌, flat_map, map}
 use Rattle.std.specs.Option.{option_and_then, option_map}
 use Rattle.block_renderer.specs.Footnotes.{add_footnotes}
+use Rattle.text_footnotes.specs.Printable.{shown_targets}
 use Rattle.text_footnotes.specs.Targets.{noted_targets}
 use Rattle.block_trait.specs.Bare.{bare_of}
 use Rattle.block_trait.specs.Renderers.{Marking, Sub, lines_of_sub, new_sub, with_block_started, with_held}
@@ -35,10 +36,15 @@ abbrev pub laid_as : {H A : Type 0} → (keeps : Bool) → Marking H A → Setti
 laid_as keeps m c width values = laid_parts m (measure_of c.min_wrap (prefix_columns (m.mark_text c.held))) values
     (whole_page (begun_as keeps (new_sub width c.options c.held [])))
 
--- the targets that stand after the page: each once, where links to equal targets share a footnote
+-- the targets that stand after a page with such options: each once, where links to equal targets share a footnote, and
+-- printable, where that is asked for
+abbrev pub targets_after : RenderOptions → List (List ℕ) → List (List ℕ)
+targets_after o targets = if o.include_link_footnotes
+    then shown_targets o.printable_targets (noted_targets o.shared_footnotes targets) else []
+
+-- those that stand after the page
 abbrev pub noted : {H A : Type 0} → Parts H A → List (List ℕ)
-noted p = if p.current.options.include_link_footnotes
-    then noted_targets p.current.options.shared_footnotes p.targets else []
+noted p = targets_after p.current.options p.targets
 
 -- Lines after a page are a block of their own.
 abbrev pub with_notes : {H A : Type 0} → List (List (Item A)) → Sub H A → Option (Sub H A)

@@ -1,9 +1,8 @@
 //! What stands after a page's last value, and its lines.
 ghost use Rattle.std.specs.Prelude.{◌≡◌, [], Err, IfOk, None, OnOk, Some, if◌then◌else◌, map};
 ghost use Rattle.block_renderer.specs.Seen.{Comes, Fails, IsTagging, marking, sub_of, tags_seen};
-ghost use Rattle.html_render_tree.specs.PageLines.{noted, renderer_lines, with_notes, with_targets};
+ghost use Rattle.html_render_tree.specs.PageLines.{noted, renderer_lines, targets_after, with_notes, with_targets};
 ghost use Rattle.text_footnotes.specs.Links.{all_targets};
-ghost use Rattle.text_footnotes.specs.Targets.{noted_targets};
 ghost use Rattle.block_trait.specs.Renderers.{lines_of_sub};
 ghost use Rattle.text_lines.specs.Tagged.{line_items};
 ghost use Rattle.text_pieces.specs.Sources.{names};
@@ -13,12 +12,12 @@ ghost use Rattle.text_borders.specs.Lines.{line_shown, render_line_of};
 ghost use Rattle.text_pieces.specs.declared.fault.BlockError.TheVariants as errors;
 
 use block_renderer::SubRenderer;
-use block_trait::Renderer;
+use block_trait::{RenderOptions, Renderer};
 use std::alloc::{AllocError, Global};
 use text_block_renderer::TextRenderer;
 use text_borders::RenderLine;
 use text_decorators::TextDecorator;
-use text_footnotes::LinkTargets;
+use text_footnotes::{LinkTargets, shown_targets};
 use text_lines::TaggedLine;
 use text_pieces::BlockError;
 
@@ -73,19 +72,18 @@ fn with_targets<D: TextDecorator + Drop>(
 }
 
 // the targets that have footnotes after the page, where they stand there
-fn shown_targets(
+fn targets_after(
     alloc: Global,
-    include: bool,
-    shared: bool,
+    options: RenderOptions,
     links: LinkTargets,
 ) -> Result<Vec<String>, AllocError>
-    ensures { IfOk result (λ targets. names targets.items
-        ≡ (if include then noted_targets shared (all_targets links) else [])) }
+    ensures { IfOk result (λ targets. names targets.items ≡ targets_after options (all_targets links)) }
 {
-    if include {
-        return links.into_noted(shared);
+    if !options.include_link_footnotes {
+        return Ok(Vec::new(alloc));
     }
-    Ok(Vec::new(alloc))
+    let targets = links.into_noted(options.shared_footnotes)?;
+    shown_targets(targets, options.printable_targets)
 }
 
 /// The page's own renderer after its last value, closed.
@@ -102,13 +100,7 @@ pub(crate) fn closed_page<D: TextDecorator + Drop>(
         (parts_of D.Annotation.seen D.view.held text).current ≡ None }
 {
     let (sub, links) = text.into_inner();
-    let options = sub.options;
-    let targets = shown_targets(
-        alloc,
-        options.include_link_footnotes,
-        options.shared_footnotes,
-        links,
-    )?;
+    let targets = targets_after(alloc, sub.options, links)?;
     with_targets(sub, targets)
 }
 

@@ -111,6 +111,21 @@ impl<D: TextDecorator + Drop> RenderConfig<D> {
         config
     }
 
+    /// Whether unprintable characters of targets are percent-encoded after the page: a control of C0 or C1, a line or
+    /// paragraph separator, and what sets the direction of text stand as the bytes of their UTF-8, each as `%` and two
+    /// upper-case hexadecimal digits (URL Standard, 1.3). Links share a footnote by their own targets, and annotations
+    /// keep these.
+    pub fn printable_targets(self, printable: bool) -> RenderConfig<D>
+        ensures setting { setting_of D.view result ≡ with_options (setting_of D.view self)
+            (record (setting_of D.view self).options { printable_targets = printable }) }
+        ensures rules { rules_of result ≡ rules_of self }
+        ensures conversion { conversion_of result ≡ conversion_of self }
+    {
+        let mut config = self;
+        config.options.printable_targets = printable;
+        config
+    }
+
     /// Every line of a block is filled with spaces to the block's width.
     pub fn pad_block_width(self) -> RenderConfig<D>
         ensures setting { setting_of D.view result ≡ with_options (setting_of D.view self)

@@ -108,6 +108,21 @@ impl<D: TextDecorator + Drop> Config<D> {
         }
     }
 
+    /// Whether unprintable characters of targets are percent-encoded after the page: a control of C0 or C1, a line or
+    /// paragraph separator, and what sets the direction of text stand as the bytes of their UTF-8, each as `%` and two
+    /// upper-case hexadecimal digits (URL Standard, 1.3). Links share a footnote by their own targets, and annotations
+    /// keep these.
+    pub fn printable_targets(self, printable: bool) -> Config<D>
+        ensures setting { page_setting D.view result ≡ rendered_with (page_setting D.view self)
+            (record (page_setting D.view self).rendering.options { printable_targets = printable }) }
+        ensures bytes { max_bytes_of result ≡ max_bytes_of self }
+    {
+        Config {
+            rendering: self.rendering.printable_targets(printable),
+            ..self
+        }
+    }
+
     /// Every line of a block is filled with spaces to the block's width.
     pub fn pad_block_width(self) -> Config<D>
         ensures setting { page_setting D.view result ≡ rendered_with (page_setting D.view self)

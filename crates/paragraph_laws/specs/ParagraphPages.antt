@@ -20,6 +20,7 @@ abbrev pub IsPlain : Setting (Unit {0}) → Type 0
 IsPlain c = c.options ≡ record default_options {
   include_link_footnotes = c.options.include_link_footnotes;
   shared_footnotes = c.options.shared_footnotes;
+  printable_targets = c.options.printable_targets;
 }
 
 -- What a page of paragraphs has: values that are rendered as its paragraphs' lines and no others, and for which a width
@@ -33,6 +34,7 @@ pub record AreLaid (c : Setting (Unit {0})) (width : ℕ) (texts : List (List �
       ↔ Any (IsWiderText width) texts
 
 abbrev pub ParagraphPagesAreLaid : Type 0
-ParagraphPagesAreLaid = (o : ConversionOptions) (rules : List StyleRule) (c : Setting (Unit {0})) (width : ℕ) (texts : List (List ℕ)) →
+ParagraphPagesAreLaid =
+    (o : ConversionOptions) (rules : List StyleRule) (c : Setting (Unit {0})) (width : ℕ) (texts : List (List ℕ)) →
     AreQuiet rules → IsPlain c → 0 < width →
     AreLaid c width texts (document_values o rules (paragraph_tree texts))

@@ -39,6 +39,7 @@ const PLAIN: LineOptions = LineOptions {
     decorates: true,
     footnotes: true,
     shares_footnotes: false,
+    prints_targets: false,
     wraps_links: true,
     min_wrap_width: 3,
 };
@@ -49,6 +50,7 @@ fn set_option(options: &mut LineOptions, field: &str) -> Result<()> {
         Some(("min_wrap_width", columns)) => options.min_wrap_width = columns.parse()?,
         Some(("link_footnotes", "false")) => options.footnotes = false,
         Some(("shared_footnotes", "true")) => options.shares_footnotes = true,
+        Some(("printable_targets", "true")) => options.prints_targets = true,
         Some(("do_decorate", "false")) => options.decorates = false,
         None if field == "pad_block_width" => options.pads = true,
         _ => bail!("no option has the name {field}"),

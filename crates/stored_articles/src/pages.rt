@@ -14,6 +14,7 @@ pub(crate) fn config_of(alloc: Global, options: LineOptions) -> Result<Config<Pl
     let mut config = Config::plain_no_decorate(alloc, ReferenceTable::basic(alloc)?)
         .link_footnotes(options.footnotes)
         .shared_footnotes(options.shares_footnotes)
+        .printable_targets(options.prints_targets)
         .min_wrap_width(options.min_wrap_width);
     if let Some(columns) = options.wrap_width {
         config = config.max_wrap_width(columns);

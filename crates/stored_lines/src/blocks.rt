@@ -54,6 +54,7 @@ const ALL_OFF: RenderOptions = RenderOptions {
     wrap_links: false,
     include_link_footnotes: false,
     shared_footnotes: false,
+    printable_targets: false,
     use_unicode_strikeout: false,
     img_mode: ImageRenderMode::IgnoreEmpty,
 };

@@ -34,6 +34,8 @@ pub(crate) enum PageOption {
     LinkFootnotes(bool),
     /// Whether links to equal targets share a footnote.
     SharedFootnotes(bool),
+    /// Whether unprintable characters of targets are percent-encoded after the page.
+    PrintableTargets(bool),
     /// Whether elements that hide themselves are left out.
     SkipHidden(bool),
     /// Whether pages are shown completely.
@@ -59,6 +61,7 @@ impl PageOption {
             PageOption::EmptyImgMode(image) => config.empty_img_mode(image.render_mode()),
             PageOption::LinkFootnotes(include) => config.link_footnotes(include),
             PageOption::SharedFootnotes(shared) => config.shared_footnotes(shared),
+            PageOption::PrintableTargets(printable) => config.printable_targets(printable),
             PageOption::SkipHidden(skip) => config.skip_hidden(skip),
             PageOption::Complete(complete) => config.complete(complete),
         }
@@ -136,6 +139,7 @@ fn option_with(name: &str, value: &str) -> Result<PageOption> {
         ("raw_mode", raw) => Ok(PageOption::RawMode(raw.parse()?)),
         ("link_footnotes", include) => Ok(PageOption::LinkFootnotes(include.parse()?)),
         ("shared_footnotes", shared) => Ok(PageOption::SharedFootnotes(shared.parse()?)),
+        ("printable_targets", printable) => Ok(PageOption::PrintableTargets(printable.parse()?)),
         ("skip_hidden", skip) => Ok(PageOption::SkipHidden(skip.parse()?)),
         ("complete", complete) => Ok(PageOption::Complete(complete.parse()?)),
         ("empty_img_mode", "ShowAlways") => Ok(PageOption::EmptyImgMode(EmptyImage::Shown)),

@@ -2,6 +2,7 @@ pub mod CutLemmas
 pub mod LastLemmas
 pub mod NumberLemmas
 pub mod OnceLemmas
+pub mod PrintableLemmas
 pub mod RunLemmas
 pub mod SharedLemmas
 pub mod TextLemmas

@@ -1,5 +1,6 @@
 pub mod Cuts
 pub mod Footnotes
 pub mod Links
+pub mod Printable
 pub mod Seen
 pub mod Targets

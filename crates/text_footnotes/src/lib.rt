@@ -16,6 +16,10 @@
 //! - `LinkTargets::into_noted`: just the targets that have footnotes, in the order of their numbers
 //! - `links_share_footnotes`: a law of shared footnotes: each target has just one, the number after a link is the
 //!   place of its own target, and stays so whatever links follow; there is one where there is a link
+//! - `shown_targets`: the targets as they stand, or with their unprintable characters percent-encoded
+//!   (`specs/Printable.antt`)
+//! - `printable_targets_lose_nothing`: a law of `printable`: nothing unprintable is left, what has none stays as it is,
+//!   and a target without `%` is had back by percent-decoding
 //!
 //! Not pinned: that memory is found, and how often a target is looked up (once, by reading).
 //!
@@ -36,9 +40,11 @@ mod footnotes;
 mod laws;
 mod link_targets;
 mod numbers;
+mod printable;
 mod target_laws;
 
 pub use footnotes::{footnote_lines, into_footnote_lines};
 pub use laws::footnotes_keep_the_width;
 pub use link_targets::LinkTargets;
-pub use target_laws::links_share_footnotes;
+pub use printable::shown_targets;
+pub use target_laws::{links_share_footnotes, printable_targets_lose_nothing};
