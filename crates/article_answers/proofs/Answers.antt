@@ -34,7 +34,8 @@ HasItsTree = (table : References) → KnowsEscapes table → (title : Option (Li
     forest ≡ article_tree title blocks
 
 abbrev pub HasItsValues : Type 0
-HasItsValues = (conversion : ConversionOptions) (o : Options) (rules : List StyleRule) (title : Option (List ℕ)) (blocks : Blocks) →
+HasItsValues = (conversion : ConversionOptions) (o : Options) (rules : List StyleRule) (title : Option (List ℕ))
+    (blocks : Blocks) →
     AreRulesOf o.decorates rules → first_fault title blocks ≡ None → NumbersFit blocks →
     document_values conversion rules (article_tree title blocks) ≡ page_values o blocks
 

@@ -17,7 +17,8 @@ use Rattle.article_definitions.specs.Exchanges.{in_bullets, in_division, in_item
 use Rattle.article_definitions.specs.Exchanges.{this_heading, this_paragraph}
 use Rattle.render_sizes.specs.Extents.{capped}
 use Rattle.article_definitions.specs.Layouts.{Line, Options, Tag, count, count_items, how_many, if_fits, item_prefix}
-use Rattle.article_definitions.specs.Layouts.{lay, lay_items, layout, least_in, least_of, least_of_items, listed_targets}
+use Rattle.article_definitions.specs.Layouts.{lay, lay_items, layout, least_in, least_of, least_of_items}
+use Rattle.article_definitions.specs.Layouts.{listed_targets}
 use Rattle.article_definitions.specs.Layouts.{next_number}
 use Rattle.article_definitions.specs.Layouts.{paragraph_lines, parted, prefixed, quote_prefix, room, room_of_numbers}
 use Rattle.article_definitions.specs.Layouts.{targets_in, targets_of, targets_of_items, to_room, within}

@@ -67,28 +67,32 @@ module _ (conversion : ConversionOptions) (o : Options) (s : Styles)
   paragraph_value : (kids rest : Trees) → values conversion s Flow (node (kind_of (codes "p") []) kids rest)
       ≡ value (plain_head infos.Block) (values conversion s Flow kids) (values conversion s Flow rest)
   paragraph_value kids rest =
-      ap (by_style conversion Flow (kind_of (codes "p") []) kids (values conversion s Flow kids) (values conversion s Flow rest))
+      ap (by_style conversion Flow (kind_of (codes "p") []) kids (values conversion s Flow kids)
+      (values conversion s Flow rest))
       (unset (codes "p") refl)
       ∙ ap (held_in infos.Block (values conversion s Flow rest)) (joined_none (values conversion s Flow kids))
 
   division_value : (kids rest : Trees) → values conversion s Flow (node (kind_of (codes "div") []) kids rest)
       ≡ value (plain_head infos.Division) (values conversion s Flow kids) (values conversion s Flow rest)
   division_value kids rest =
-      ap (by_style conversion Flow (kind_of (codes "div") []) kids (values conversion s Flow kids) (values conversion s Flow rest))
+      ap (by_style conversion Flow (kind_of (codes "div") []) kids (values conversion s Flow kids)
+      (values conversion s Flow rest))
       (unset (codes "div") refl)
       ∙ ap (held_in infos.Division (values conversion s Flow rest)) (joined_none (values conversion s Flow kids))
 
   quote_value : (kids rest : Trees) → values conversion s Flow (node (kind_of (codes "blockquote") []) kids rest)
       ≡ value (plain_head infos.Quote) (values conversion s Flow kids) (values conversion s Flow rest)
   quote_value kids rest =
-      ap (by_style conversion Flow (kind_of (codes "blockquote") []) kids (values conversion s Flow kids) (values conversion s Flow rest))
+      ap (by_style conversion Flow (kind_of (codes "blockquote") []) kids (values conversion s Flow kids)
+      (values conversion s Flow rest))
       (unset (codes "blockquote") refl)
       ∙ ap (held_in infos.Quote (values conversion s Flow rest)) (joined_none (values conversion s Flow kids))
 
   item_value : (kids rest : Trees) → values conversion s InList (node (kind_of (codes "li") []) kids rest)
       ≡ value (plain_head infos.Container) (values conversion s Flow kids) (values conversion s InList rest)
   item_value kids rest =
-      ap (by_style conversion InList (kind_of (codes "li") []) kids (values conversion s Flow kids) (values conversion s InList rest))
+      ap (by_style conversion InList (kind_of (codes "li") []) kids (values conversion s Flow kids)
+      (values conversion s InList rest))
       (unset (codes "li") refl)
       ∙ ap (held_in infos.Container (values conversion s InList rest)) (joined_none (values conversion s Flow kids))
 
@@ -100,9 +104,11 @@ module _ (conversion : ConversionOptions) (o : Options) (s : Styles)
 
   bullets_value : (kids rest : Trees) (head : Head) (first more : Values) → IsBullets kids rest (value head first more)
   bullets_value kids rest head first more e =
-      ap (by_style conversion Flow (kind_of (codes "ul") []) kids (values conversion s InList kids) (values conversion s Flow rest))
+      ap (by_style conversion Flow (kind_of (codes "ul") []) kids (values conversion s InList kids)
+      (values conversion s Flow rest))
       (unset (codes "ul") refl)
-      ∙ ap (λ inside. by_style conversion Flow (kind_of (codes "ul") []) kids inside (values conversion s Flow rest) all_unset) e
+      ∙ ap (λ inside. by_style conversion Flow (kind_of (codes "ul") []) kids inside (values conversion s Flow rest)
+      all_unset) e
       ∙ ap (held_in infos.Bullets (values conversion s Flow rest)) (joined_none (value head first more))
 
   abbrev IsNumbers : ℤ → (kids rest : Trees) → Values → Type 0
@@ -113,10 +119,13 @@ module _ (conversion : ConversionOptions) (o : Options) (s : Styles)
   numbers_value : (number : ℤ) → mag number < 2 ^ 63 → (kids rest : Trees) (head : Head) (first more : Values) →
       IsNumbers number kids rest (value head first more)
   numbers_value number fits kids rest head first more e =
-      ap (by_style conversion Flow (kind_of (codes "ol") (start number)) kids (values conversion s InList kids) (values conversion s Flow rest))
+      ap (by_style conversion Flow (kind_of (codes "ol") (start number)) kids (values conversion s InList kids)
+      (values conversion s Flow rest))
       (unset (codes "ol") refl)
-      ∙ ap (λ inside. by_style conversion Flow (kind_of (codes "ol") (start number)) kids inside (values conversion s Flow rest) all_unset) e
-      ∙ ap (λ z. value (plain_head (infos.Numbers z)) (joined (value head first more) none) (values conversion s Flow rest))
+      ∙ ap (λ inside. by_style conversion Flow (kind_of (codes "ol") (start number)) kids inside
+      (values conversion s Flow rest) all_unset) e
+      ∙ ap (λ z. value (plain_head (infos.Numbers z)) (joined (value head first more) none)
+      (values conversion s Flow rest))
       (start_read number fits)
       ∙ ap (held_in (infos.Numbers number) (values conversion s Flow rest)) (joined_none (value head first more))
 
@@ -126,7 +135,8 @@ module _ (conversion : ConversionOptions) (o : Options) (s : Styles)
 
   abbrev by_name : (kids rest : Trees) → List ℕ → Parts → Values
   by_name kids rest name style =
-      by_style conversion Flow (kind_of name []) kids (values conversion s Flow kids) (values conversion s Flow rest) style
+      by_style conversion Flow (kind_of name []) kids (values conversion s Flow kids) (values conversion s Flow rest)
+      style
 
   heading_value : (kids rest : Trees) (level : ℕ) → is_level level ≡ true → IsHeading kids rest level
   heading_value kids rest level h =
@@ -151,7 +161,8 @@ module _ (conversion : ConversionOptions) (o : Options) (s : Styles)
         let b = held_passed d (fault_of_inlines (suc d) false false contents) (fault_of_blocks d rest) h in
         let later = trees_of_content (content_of_blocks rest) in
         paragraph_value (trees_of_content (content_of_inlines contents)) later
-        ∙ ap (held_in infos.Block (values conversion s Flow later)) (inlines_valued conversion o s seen (suc d) false false contents b.0)
+        ∙ ap (held_in infos.Block (values conversion s Flow later))
+        (inlines_valued conversion o s seen (suc d) false false contents b.0)
         ∙ ap (value (plain_head infos.Block) (values_of_inlines o contents)) (blocks_valued d rest b.1 fit)
     blocks_valued d (heading level contents rest) h fit =
         let b = heading_passed d level (fault_of_inlines (suc d) false false contents) (fault_of_blocks d rest) h in
@@ -207,20 +218,23 @@ module _ (conversion : ConversionOptions) (o : Options) (s : Styles)
 
   body_value : (inside : Trees) → values conversion s Flow (body inside) ≡ container (values conversion s Flow inside)
   body_value inside =
-      ap (by_style conversion Flow (kind_of (codes "body") []) inside (values conversion s Flow inside) none) (unset (codes "body") refl)
+      ap (by_style conversion Flow (kind_of (codes "body") []) inside (values conversion s Flow inside) none)
+      (unset (codes "body") refl)
       ∙ ap container (joined_none (values conversion s Flow inside))
 
   -- `head` has no value
   head_value : (inside rest : Trees) →
       values conversion s Flow (node (kind_of (codes "head") []) inside rest) ≡ values conversion s Flow rest
   head_value inside rest =
-      ap (by_style conversion Flow (kind_of (codes "head") []) inside (values conversion s Nowhere inside) (values conversion s Flow rest))
+      ap (by_style conversion Flow (kind_of (codes "head") []) inside (values conversion s Nowhere inside)
+      (values conversion s Flow rest))
       (unset (codes "head") refl)
 
   html_value : (inside : Trees) → values conversion s Flow (node (kind_of (codes "html") []) inside of_trees.none)
       ≡ container (values conversion s Flow inside)
   html_value inside =
-      ap (by_style conversion Flow (kind_of (codes "html") []) inside (values conversion s Flow inside) none) (unset (codes "html") refl)
+      ap (by_style conversion Flow (kind_of (codes "html") []) inside (values conversion s Flow inside) none)
+      (unset (codes "html") refl)
       ∙ ap container (joined_none (values conversion s Flow inside))
 
   -- a document has a value where something stands in it; its doctype has none

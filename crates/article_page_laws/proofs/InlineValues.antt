@@ -138,35 +138,48 @@ module _ (conversion : ConversionOptions) (o : Options) (s : Styles)
   marks_at : (style : Style) → s (style_name style) ≡ style_by (mark_of o style)
   marks_at style = seen (style_name style) ∙ marks_are_seen o.decorates style
 
-  span_values : (style : Style) (kids rest : Trees) → values conversion s Flow (node (kind_of (style_name style) []) kids rest)
-      ≡ value (plain_head (style_info style)) (marked (mark_of o style) (values conversion s Flow kids)) (values conversion s Flow rest)
+  span_values : (style : Style) (kids rest : Trees) → values conversion s Flow
+      (node (kind_of (style_name style) []) kids rest)
+      ≡ value (plain_head (style_info style)) (marked (mark_of o style) (values conversion s Flow kids))
+      (values conversion s Flow rest)
   span_values bold kids rest =
-      ap (by_style conversion Flow (kind_of (codes "b") []) kids (values conversion s Flow kids) (values conversion s Flow rest)) (marks_at bold)
+      ap (by_style conversion Flow (kind_of (codes "b") []) kids (values conversion s Flow kids)
+      (values conversion s Flow rest)) (marks_at bold)
       ∙ marked_by conversion bold (mark_of o bold) kids (values conversion s Flow kids) (values conversion s Flow rest)
   span_values italic kids rest =
-      ap (by_style conversion Flow (kind_of (codes "i") []) kids (values conversion s Flow kids) (values conversion s Flow rest)) (marks_at italic)
-      ∙ marked_by conversion italic (mark_of o italic) kids (values conversion s Flow kids) (values conversion s Flow rest)
+      ap (by_style conversion Flow (kind_of (codes "i") []) kids (values conversion s Flow kids)
+      (values conversion s Flow rest)) (marks_at italic)
+      ∙ marked_by conversion italic (mark_of o italic) kids (values conversion s Flow kids)
+      (values conversion s Flow rest)
   span_values emphasis kids rest =
-      ap (by_style conversion Flow (kind_of (codes "em") []) kids (values conversion s Flow kids) (values conversion s Flow rest)) (marks_at emphasis)
-      ∙ marked_by conversion emphasis (mark_of o emphasis) kids (values conversion s Flow kids) (values conversion s Flow rest)
+      ap (by_style conversion Flow (kind_of (codes "em") []) kids (values conversion s Flow kids)
+      (values conversion s Flow rest)) (marks_at emphasis)
+      ∙ marked_by conversion emphasis (mark_of o emphasis) kids (values conversion s Flow kids)
+      (values conversion s Flow rest)
   span_values code kids rest =
-      ap (by_style conversion Flow (kind_of (codes "code") []) kids (values conversion s Flow kids) (values conversion s Flow rest)) (marks_at code)
+      ap (by_style conversion Flow (kind_of (codes "code") []) kids (values conversion s Flow kids)
+      (values conversion s Flow rest)) (marks_at code)
       ∙ marked_by conversion code (mark_of o code) kids (values conversion s Flow kids) (values conversion s Flow rest)
   span_values strong kids rest =
-      ap (by_style conversion Flow (kind_of (codes "strong") []) kids (values conversion s Flow kids) (values conversion s Flow rest)) (marks_at strong)
-      ∙ marked_by conversion strong (mark_of o strong) kids (values conversion s Flow kids) (values conversion s Flow rest)
+      ap (by_style conversion Flow (kind_of (codes "strong") []) kids (values conversion s Flow kids)
+      (values conversion s Flow rest)) (marks_at strong)
+      ∙ marked_by conversion strong (mark_of o strong) kids (values conversion s Flow kids)
+      (values conversion s Flow rest)
 
   break_values : (rest : Trees) →
       values conversion s Flow (node (kind_of (codes "br") []) of_trees.none rest)
       ≡ value (plain_head infos.Break) none (values conversion s Flow rest)
   break_values rest =
-      ap (by_style conversion Flow (kind_of (codes "br") []) of_trees.none none (values conversion s Flow rest)) (unset_at (codes "br") refl)
+      ap (by_style conversion Flow (kind_of (codes "br") []) of_trees.none none (values conversion s Flow rest))
+      (unset_at (codes "br") refl)
 
   link_values : (target : List ℕ) (kids rest : Trees) →
       values conversion s Flow (node (kind_of (codes "a") (href target)) kids rest)
-      ≡ link_before (all_empty (values conversion s Flow kids)) target (values conversion s Flow kids) (values conversion s Flow rest)
+      ≡ link_before (all_empty (values conversion s Flow kids)) target (values conversion s Flow kids)
+      (values conversion s Flow rest)
   link_values target kids rest =
-      ap (by_style conversion Flow (kind_of (codes "a") (href target)) kids (values conversion s Flow kids) (values conversion s Flow rest))
+      ap (by_style conversion Flow (kind_of (codes "a") (href target)) kids (values conversion s Flow kids)
+      (values conversion s Flow rest))
       (unset_at (codes "a") refl)
       ∙ linked_by conversion target kids (values conversion s Flow kids) (values conversion s Flow rest)
 

@@ -43,7 +43,7 @@ abbrev pub Comes : {D T H A : Type 0} → (T → A) → DecoratorView D H T
 Comes seen view f old new = (tag : _) → IsTagging seen view tag
     → f (marking view tag) (sub_of seen view.held old) ≡ Some (sub_of seen view.held new)
 
--- However they are seen, it comes to none.
+-- However they are seen, it gives none.
 abbrev pub Fails : {D T H A : Type 0} → (T → A) → DecoratorView D H T
     → (Marking H A → Sub H A → Option (Sub H A)) → SubRenderer D T → Type 0
 Fails seen view f old = (tag : _) → IsTagging seen view tag

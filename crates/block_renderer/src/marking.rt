@@ -49,7 +49,7 @@ impl<D: TextDecorator + Drop> SubRenderer<D> {
         Ok(())
     }
 
-    /// Memory is wanting, which is noted.
+    /// An allocation failed, which is noted.
     pub(crate) fn refuse(&mut self, error: AllocError) -> Result<(), BlockError>
         ensures memory { result ≡ Err errors.Memory }
         ensures failed { has_failed self.new ≡ true }

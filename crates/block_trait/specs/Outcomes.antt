@@ -3,7 +3,7 @@ use Rattle.std.specs.Prelude.{◌≡◌, ◌⊎◌, Bool, true, false, is_err, R
 use Rattle.text_pieces.specs.declared.fault.BlockError.{BlockError}
 use Rattle.text_pieces.specs.declared.fault.BlockError.TheVariants.{TooNarrow, Memory, Failed}
 
--- After a refusal every call is refused as `Failed`; before it a call is done, or too narrow, or memory is wanting.
+-- After a refusal every call is refused as `Failed`; before it a call is done, or too narrow, or an allocation fails.
 pub record IsOutcome (result : Result Unit BlockError) (before trailing : Bool) (Done Never : Type 0) : Type 0 where
   pub refused : is_err result ≡ trailing
   pub failed : before ≡ true → result ≡ Err Failed

@@ -1,4 +1,4 @@
--- A renderer of a block: what it holds, and what each call makes of it. Where a call comes to no renderer, a character
+-- A renderer of a block: what it holds, and what each call makes of it. Where a call gives no renderer, a character
 -- is wider than the lines at which its text wraps.
 use Rattle.std.specs.Prelude.{◌+◌, ◌-◌, ◌==◌, [], ◌∷◌, ◌++◌, if◌then◌else◌, Bool, List, None, Option, Some, chars}
 use Rattle.std.specs.Prelude.{flat_map, fold, max, min, nat_le, nat_lt, replicate, true, unwrap_or, ℕ}

@@ -5,11 +5,10 @@ use Rattle.std.specs.Prelude.{if◌then◌else◌}
 use Rattle.std.proofs.lemmas.List.{map-append}
 use Rattle.std.specs.Option.{option_and_then}
 use Rattle.block_renderer.specs.Footnotes.{add_footnotes}
-use Rattle.text_footnotes.specs.Targets.{noted_targets}
 use Rattle.block_trait.specs.Renderers.{Marking, Sub, with_block_started}
 use Rattle.text_lines.specs.Tagged.{Item}
 use Rattle.text_block_renderer.specs.Parts.{Parts}
-use Rattle.html_render_tree.specs.PageLines.{Setting, noted, with_notes, with_targets}
+use Rattle.html_render_tree.specs.PageLines.{Setting, noted, targets_after, with_notes, with_targets}
 
 pub notes_are : {H A : Type 0} (notes : List (List (Item A))) (s : Sub H A) → (notes ≡ [] → ⊥)
     → with_notes notes s ≡ option_and_then (add_footnotes notes) (with_block_started s)
@@ -49,13 +48,10 @@ pub with_targets_as : {T H A : Type 0} (m : Marking H A) (seen : T → A)
 with_targets_as m seen closes targets others s r out e f h =
     subst (λ l. with_targets m seen closes l r ≡ out) e (subst (λ x. with_targets m seen closes targets x ≡ out) f h)
 
-abbrev noted_by : {H A : Type 0} → Sub H A → List (List ℕ) → List (List ℕ)
-noted_by s links =
-    if s.options.include_link_footnotes then noted_targets s.options.shared_footnotes links else []
-
 pub noted_as : {H A : Type 0} (p : Parts H A) (s : Sub H A) (links targets : List (List ℕ)) → s ≡ p.current
-    → links ≡ p.targets → targets ≡ noted_by s links → targets ≡ noted p
-noted_as p s links targets e f h = h ∙ (ap (λ x. noted_by x links) e ∙ ap (noted_by p.current) f)
+    → links ≡ p.targets → targets ≡ targets_after s.options links → targets ≡ noted p
+noted_as p s links targets e f h =
+    h ∙ (ap (λ x. targets_after x.options links) e ∙ ap (targets_after p.current.options) f)
 
 pub if_ok_by : {X E : Type 0} (P Q : X → Type 0) (r : Result X E) → ((x : X) → P x → Q x) → IfOk r P → IfOk r Q
 if_ok_by P Q (Ok x) f h = f x h

@@ -1,5 +1,6 @@
 -- No line passes the width of its renderer, whatever values are laid out outside of tables.
-use Rattle.std.proofs.Common.{◌≡◌, ◌+◌, ◌-◌, ◌≤◌, ◌≤ℤ◌, ◌∙◌, [], Bool, IfSome, List, None, Option, Some, ap, arith, false}
+use Rattle.std.proofs.Common.{◌≡◌, ◌+◌, ◌-◌, ◌≤◌, ◌≤ℤ◌, ◌∙◌, [], Bool, IfSome, List, None, Option, Some, ap, arith}
+use Rattle.std.proofs.Common.{false}
 use Rattle.std.proofs.Common.{max, refl, subst, suc, sym, true, zero, ℕ, ℤ}
 use Rattle.std.specs.Prelude.{FitsSigned, if◌then◌else◌}
 use Rattle.std.specs.Int.{w64}

@@ -1,7 +1,8 @@
 -- What is done where a value begins and where it ends.
 use Rattle.std.specs.Prelude.{ℕ, Bool, true, false, List, [], Option, Some, if◌then◌else◌}
 use Rattle.text_pieces.specs.declared.white_space.WhiteSpace.TheVariants.{Pre}
-use Rattle.block_trait.specs.Calls.{adds_border, adds_image, adds_text, breaks_line, ends_block, ends_colour, ends_line, ends_mark}
+use Rattle.block_trait.specs.Calls.{adds_border, adds_image, adds_text, breaks_line, ends_block, ends_colour, ends_line}
+use Rattle.block_trait.specs.Calls.{ends_mark}
 use Rattle.block_trait.specs.Calls.{ends_mode, ends_preformat, ends_strikeout, starts_block, starts_colour}
 use Rattle.block_trait.specs.Calls.{starts_fragment, starts_mark, starts_mode, starts_preformat, starts_strikeout}
 use Rattle.block_trait.specs.Renderers.{Marking}

@@ -3,6 +3,7 @@ use Rattle.std.proofs.Common.{◌≡◌, ◌≢◌, [], if◌then◌else◌, ◌
 use Rattle.std.proofs.Common.{true, ℕ}
 use Rattle.std.specs.Option.{option_and_then, option_map}
 use Rattle.block_layout.specs.Laid.{Laid}
+use Rattle.text_footnotes.specs.Printable.{shown_targets}
 use Rattle.text_footnotes.specs.Targets.{noted_targets}
 use Rattle.html_render_tree.specs.PageLines.{Setting, laid_page, noted, page_lines, renderer_lines, with_targets}
 use Rattle.render_values.specs.Values.{Values, none}
@@ -20,21 +21,24 @@ abbrev seen : Unit {0} → Unit {0}
 seen _ = tt
 
 -- the targets of a page without links
-targets_none : (links shared : Bool) →
-    ◌≡◌ {A = List (List ℕ)} (if links then noted_targets shared [] else []) []
-targets_none true true = refl
-targets_none true false = refl
-targets_none false shared = refl
+targets_none : (links shared prints : Bool) →
+    ◌≡◌ {A = List (List ℕ)} (if links then shown_targets prints (noted_targets shared []) else []) []
+targets_none true true true = refl
+targets_none true true false = refl
+targets_none true false true = refl
+targets_none true false false = refl
+targets_none false shared prints = refl
 
-module _ (links shared : Bool) (held : Unit {0}) (width : ℕ) where
+module _ (links shared prints : Bool) (held : Unit {0}) (width : ℕ) where
   abbrev sub : Laid Plain → Page
-  sub b = sub_at links shared held width b
+  sub b = sub_at links shared prints held width b
 
   abbrev parts : Laid Plain → Pages
-  parts b = parts_at links shared held width b
+  parts b = parts_at links shared prints held width b
 
   closed_is : (b : Laid Plain) → with_targets plain_marking seen plain_closes (noted (parts b)) (sub b) ≡ Some (sub b)
-  closed_is b = ap (λ targets. with_targets plain_marking seen plain_closes targets (sub b)) (targets_none links shared)
+  closed_is b = ap (λ targets. with_targets plain_marking seen plain_closes targets (sub b))
+      (targets_none links shared prints)
 
   -- ---- what a page is rendered as
 
@@ -61,9 +65,10 @@ pub are_laid : (k : KnowsNormalText) (c : Setting (Unit {0})) (width : ℕ) (tex
 are_laid k c width texts is_plain =
     let links = c.options.include_link_footnotes in
     let shared = c.options.shared_footnotes in
+    let prints = c.options.printable_targets in
     let values = paragraph_values texts in
     let same = all_shown_are k width texts in
-    let shown = page_shown links shared c.held width c values (all_laid width texts begun_laid)
+    let shown = page_shown links shared prints c.held width c values (all_laid width texts begun_laid)
     (page_is c width texts is_plain) in
     record {
       some = some_values texts;

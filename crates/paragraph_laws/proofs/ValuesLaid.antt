@@ -41,9 +41,13 @@ twice : {A B C : Type 0} (f : B → C) (g : A → B) (h : A → C) (x : Option A
 twice f g h None e = refl
 twice f g h (Some a) e = ap Some (e a)
 
-module _ (links shared : Bool) (held : Unit {0}) (width : ℕ) where
+module _ (links shared prints : Bool) (held : Unit {0}) (width : ℕ) where
   abbrev options : RenderOptions
-  options = record default_options { include_link_footnotes = links; shared_footnotes = shared }
+  options = record default_options {
+    include_link_footnotes = links;
+    shared_footnotes = shared;
+    printable_targets = prints;
+  }
 
   -- the renderer of a page, by what it has laid out
   abbrev pub sub_at : Laid Plain → Page
@@ -174,14 +178,15 @@ begun_laid = state [] None false
 
 pub page_is : (c : Setting (Unit {0})) (width : ℕ) (texts : List (List ℕ)) → IsPlain c →
     laid_page plain_marking c width (paragraph_values texts)
-    ≡ option_map (parts_at c.options.include_link_footnotes c.options.shared_footnotes c.held width)
-    (all_laid width texts begun_laid)
+    ≡ option_map (parts_at c.options.include_link_footnotes c.options.shared_footnotes c.options.printable_targets
+    c.held width) (all_laid width texts begun_laid)
 page_is c width texts is_plain =
     let links = c.options.include_link_footnotes in
     let shared = c.options.shared_footnotes in
+    let prints = c.options.printable_targets in
     let by : Measure = measure_of c.min_wrap (prefix_columns (plain_marking.mark_text c.held)) in
     ap (λ (o : RenderOptions). laid_parts plain_marking by (paragraph_values texts)
     (whole_page (new_sub width o c.held []))) is_plain
-    ∙ ap (option_map (λ (l : Layings). l.parts)) (page_walked links shared c.held width by texts begun_laid)
-    ∙ twice (λ (l : Layings). l.parts) (laying links shared c.held width) (parts_at links shared c.held width)
-    (all_laid width texts begun_laid) (λ b. refl)
+    ∙ ap (option_map (λ (l : Layings). l.parts)) (page_walked links shared prints c.held width by texts begun_laid)
+    ∙ twice (λ (l : Layings). l.parts) (laying links shared prints c.held width)
+    (parts_at links shared prints c.held width) (all_laid width texts begun_laid) (λ b. refl)

@@ -75,7 +75,8 @@ module _ (o : ConversionOptions) (s : Styles) where
       ∙ ap container (head_valued of_head inside ∙ body_valued of_body (trees_of_paragraphs texts)
       ∙ ap container (paragraphs_valued of_p texts)))
 
-pub values_of_page : (at_once : PlantsAtOnce) (o : ConversionOptions) (rules : List StyleRule) (texts : List (List ℕ)) → AreQuiet rules →
+pub values_of_page : (at_once : PlantsAtOnce) (o : ConversionOptions) (rules : List StyleRule) (texts : List (List ℕ))
+    → AreQuiet rules →
     document_values o rules (paragraph_tree texts) ≡ paragraph_values texts
 values_of_page at_once o rules texts quiet =
     ap (values o (styles_of rules) Flow) (trees_of_page at_once texts)

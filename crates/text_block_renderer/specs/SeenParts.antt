@@ -25,7 +25,7 @@ current_has_failed t = t.current.failed
 abbrev pub with_current_renderer : {D T : Type 0} → TextRenderer D T → SubRenderer D T → TextRenderer D T
 with_current_renderer t s = record t { current = s }
 
--- However the decorator's annotations are seen, the renderer comes from the old one by f, or comes to none.
+-- However the decorator's annotations are seen, the renderer comes from the old one by f, or there is none.
 abbrev pub PartsCome : {D T H A : Type 0} → (T → A) → DecoratorView D H T
     → (Marking H A → Parts H A → Option (Parts H A)) → TextRenderer D T → TextRenderer D T → Type 0
 PartsCome seen view f old new = (tag : _) → IsTagging seen view tag

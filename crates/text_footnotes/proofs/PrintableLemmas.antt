@@ -1,7 +1,9 @@
 -- Printable targets, and what is had back from them.
-use Rattle.std.proofs.Common.{◌≡◌, ◌<◌, ◌≤◌, ◌==◌, ◌||◌, [], ◌∷◌, ◌++◌, ◌∙◌, ◌/◌, ◌%◌, All, Bool, IsAscii, List, ap, append-nil}
+use Rattle.std.proofs.Common.{◌≡◌, ◌<◌, ◌≤◌, ◌==◌, ◌||◌, [], ◌∷◌, ◌++◌, ◌∙◌, ◌/◌, ◌%◌, All, Bool, IsAscii, List, ap}
+use Rattle.std.proofs.Common.{append-nil}
 use Rattle.std.proofs.Common.{append_assoc, arith, cond, false, flat_map, inl, inr, ltb, refl, sym, true, ℕ}
-use Rattle.std.proofs.Common.{◌+◌, ⊎_elim, IsUtf8, String, chars, get_or, length, length-append, map, string_bytes, subst, take}
+use Rattle.std.proofs.Common.{◌+◌, ⊎_elim, IsUtf8, String, chars, get_or, length, length-append, map, string_bytes}
+use Rattle.std.proofs.Common.{subst, take}
 use Rattle.std.specs.List.{list_any}
 use Rattle.std.specs.Char.{encode_utf8}
 use Rattle.std.specs.Global.{Global}
@@ -228,7 +230,8 @@ shown_all front all [] none h = sym (append-nil front) ∙ h
 shown_all front all (x ∷ its) none h = absurd (omega (arith, none))
 
 -- there are some where there are targets
-pub shown_filled : (prints : Bool) (targets : List (List ℕ)) → is_filled (shown_targets prints targets) ≡ is_filled targets
+pub shown_filled : (prints : Bool) (targets : List (List ℕ)) → is_filled (shown_targets prints targets) ≡ is_filled
+    targets
 shown_filled false targets = refl
 shown_filled true [] = refl
 shown_filled true (target ∷ targets) = refl

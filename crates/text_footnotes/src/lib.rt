@@ -10,7 +10,7 @@
 //! its own, or, where footnotes are shared, each target has one, the first link's (`distinct`); a footnote's number
 //! is its place.
 //!
-//! - `LinkTargets::new`, `push`: no link; one link more, or none more where memory is wanting
+//! - `LinkTargets::new`, `push`: no link; one link more, or none more after an allocation failure
 //! - `LinkTargets::last_number`: the number of the last link's footnote, as footnotes are shared or not; the links
 //!   stay
 //! - `LinkTargets::into_noted`: just the targets that have footnotes, in the order of their numbers

@@ -1,5 +1,6 @@
 //! Laws of the targets of links: each is the contract of a function that does nothing.
-ghost use Rattle.std.specs.Prelude.{◌≡◌, ◌==◌, ℕ, ◌-◌, List, [], ◌∷◌, ◌++◌, Some, encode_utf8_all, false, slice_get, true};
+ghost use Rattle.std.specs.Prelude.{◌≡◌, ◌==◌, ℕ, ◌-◌, List, [], ◌∷◌, ◌++◌, Some, encode_utf8_all, false, slice_get};
+ghost use Rattle.std.specs.Prelude.{true};
 ghost use Rattle.std.specs.Prelude.{if◌then◌else◌};
 ghost use Rattle.std.specs.List.{count_by, list_any};
 ghost use Rattle.percent_encoding.specs.Percent.{percent_decode, percent_sign};

@@ -10,7 +10,8 @@ pub returns-then-is_unprintable : goal.returns-then-is_unprintable
 returns-then-is_unprintable c =
     on_ok_weaker c.push_escapes.result (λ h. h ∙ ap (λ l. chars (string_bytes c.args.text.now) ++ l)
     (ap escapes (c.as_bytes.ensures.value ∙ c.encode_utf8.ensures.value)
-    ∙ sym (escaped_character c.args.c (sym c.is_unprintable.ensures ∙ c.if-is_unprintable.true)))) c.push_escapes.ensures
+    ∙ sym (escaped_character c.args.c (sym c.is_unprintable.ensures ∙ c.if-is_unprintable.true))))
+    c.push_escapes.ensures
 
 pub returns : goal.returns
 returns c =

@@ -8,11 +8,13 @@ use Rattle.layout_state.proofs.laying.LayoutState.add_rule.Goals as goal
 
 pub returns-clause-done : goal.returns-clause-done
 returns-clause-done g c = on_ok_weaker c.add_rule_line.result
-    (λ h. λ tag p. turn_on (empty_text (marking g.D.TextDecorator.view tag)) (rule_line (marking g.D.TextDecorator.view tag)) _ _ _
+    (λ h. λ tag p. turn_on (empty_text (marking g.D.TextDecorator.view tag))
+    (rule_line (marking g.D.TextDecorator.view tag)) _ _ _
     (c.in_ok-add_empty_text.ensures.done tag p) (h tag p)) c.add_rule_line.ensures.done
 
 pub returns-clause-narrow : goal.returns-clause-narrow
-returns-clause-narrow g c = λ e. λ tag p. turn_on (empty_text (marking g.D.TextDecorator.view tag)) (rule_line (marking g.D.TextDecorator.view tag)) _ _ _
+returns-clause-narrow g c = λ e. λ tag p. turn_on (empty_text (marking g.D.TextDecorator.view tag))
+    (rule_line (marking g.D.TextDecorator.view tag)) _ _ _
     (c.in_ok-add_empty_text.ensures.done tag p) (c.add_rule_line.ensures.narrow e tag p)
 
 pub returns-in_err-add_empty_text-clause-narrow : goal.returns-in_err-add_empty_text-clause-narrow

@@ -14,4 +14,5 @@ returns-then-options-clause-done g c =
     sym (ap (λ (s : Sub _ _). s.options.draw_borders) c.current.ensures.sub)
     ∙ sym (ap (λ (o : _). o.draw_borders) c.options.ensures) ∙ c.if-options.true in
     on_ok_weaker c.add_border.result (λ h. λ tag p.
-    ap (λ (b : Bool). (if b then says (marking g.D.TextDecorator.view tag) adds_border else Some) l) drawn ∙ h tag p) c.add_border.ensures.done
+    ap (λ (b : Bool). (if b then says (marking g.D.TextDecorator.view tag) adds_border else Some) l) drawn ∙ h tag p)
+    c.add_border.ensures.done

@@ -10,11 +10,13 @@ use Rattle.layout_state.proofs.laying.LayoutState.add_rule_line.Goals as goal
 
 pub returns-clause-done : goal.returns-clause-done
 returns-clause-done g c = on_ok_weaker c.add_rule_border.result
-    (λ h. λ tag p. turn_on (says (marking g.D.TextDecorator.view tag) ends_line) (rule_border (marking g.D.TextDecorator.view tag)) _ _ _
+    (λ h. λ tag p. turn_on (says (marking g.D.TextDecorator.view tag) ends_line)
+    (rule_border (marking g.D.TextDecorator.view tag)) _ _ _
     (c.in_ok-end_line.ensures.done tag p) (h tag p)) c.add_rule_border.ensures.done
 
 pub returns-clause-narrow : goal.returns-clause-narrow
-returns-clause-narrow g c = λ e. λ tag p. turn_on (says (marking g.D.TextDecorator.view tag) ends_line) (rule_border (marking g.D.TextDecorator.view tag)) _ _ _
+returns-clause-narrow g c = λ e. λ tag p. turn_on (says (marking g.D.TextDecorator.view tag) ends_line)
+    (rule_border (marking g.D.TextDecorator.view tag)) _ _ _
     (c.in_ok-end_line.ensures.done tag p) (c.add_rule_border.ensures.narrow e tag p)
 
 pub returns-in_err-end_line-clause-narrow : goal.returns-in_err-end_line-clause-narrow
