@@ -25,7 +25,7 @@
 //! The law says nothing of whether there is an answer, which is where memory is found (`a_page_has_an_answer`). The
 //! edits change what is said of the article; that an article's first numbers are numbers of 64 bits is
 //! `first_numbers_fit`. Not pinned: a `layout` that always answers `Memory`. The cases `article` of stored_rows
-//! compare the lines of 600 articles of an independent model and of rows written by hand with those of their pages,
+//! compare the lines of 800 articles of an independent model and of rows written by hand with those of their pages,
 //! read whole and a byte at a time.
 #![tactic(auto)]
 

@@ -15,7 +15,7 @@
 //! article; what a list or a quote asks for is measured at each level, so that lists within lists are measured once
 //! a level. The numbers of paragraphs and of links are counted up to what memory can hold.
 //!
-//! The cases `article` of stored_rows have the lines of the model's 600 articles and of the rows written by hand.
+//! The cases `article` of stored_rows have the lines of the model's 800 articles and of the rows written by hand.
 //! Not pinned: a `lay_article` that always answers `Memory`.
 #![tactic(auto)]
 

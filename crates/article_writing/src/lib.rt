@@ -49,11 +49,11 @@
 //!
 //! Not pinned: a `serialize` and a `write_html` that always answer `Memory`.
 //!
-//! The cases `article` of stored_rows are the model's 600 articles, 300 of them with quotes and strong text, and 25
-//! by hand (deep ones, those of the first faults, and links to equal targets among them): each page and each fault
-//! is the model's, or the one that was written by hand; the tree that a page is read into is that which Python's
-//! own reader of HTML gives for the expected page, or was written by hand; and what is written of this tree is the
-//! page again.
+//! The cases `article` of stored_rows are the model's 800 articles, 500 of them with quotes and strong text, 200 of
+//! these with targets that are printed, and 25 by hand (deep ones, those of the first faults, and links to equal
+//! targets among them): each page and each fault is the model's, or the one that was written by hand; the tree that a
+//! page is read into is that which Python's own reader of HTML gives for the expected page, or was written by hand; and
+//! what is written of this tree is the page again.
 #![tactic(auto)]
 
 mod blocks;

@@ -27,6 +27,8 @@ enum Look {
     SkipHidden,
     /// Completely.
     Complete,
+    /// With targets that are printable, each once.
+    Printable,
     /// By a table of these references.
     Names(&'static [(&'static str, &'static str)]),
     NoScripting,
@@ -58,9 +60,11 @@ const HIDING: &[u8] =
     b"<body hidden><p hidden>a</p><p style='color: red; Display: none !important'>b</p>\
 <p hidden=until-found>c</p><p style='display:block'>d</p><table><tr hidden><td>e<tr><td>f</table>";
 
+const ESCAPES: &[u8] = b"<a href='u%1B'>a</a> <a href='u&#27;'>b</a> <a href='u&#27;'>c</a>";
+
 const WHOLE: &[u8] = b"<p>a</p><hr><p>b <q>c</q></p><noscript><p>d</p></noscript>";
 
-static ROWS: [Row; 18] = [
+static ROWS: [Row; 19] = [
     (Look::Plain, 20, MARKED, Ok("a *b* [c][1]\n\n[1]: x\n")),
     (Look::NoTargets, 20, MARKED, Ok("a *b* [c]\n")),
     (Look::NoMarks, 20, MARKED, Ok("a b [c]\n")),
@@ -71,6 +75,12 @@ static ROWS: [Row; 18] = [
     (Look::Hidden, 20, b"<p>a</p>b<em>c", Ok("b*c*\n")),
     (Look::Complete, 3, WHOLE, Ok("a\n\n───\n\nb\n“c”\n\nd\n")),
     (Look::SkipHidden, 20, HIDING, Ok("c\n\nd\n\n─\nf\n─\n")),
+    (
+        Look::Printable,
+        40,
+        ESCAPES,
+        Ok("[a][1] [b][2] [c][2]\n\n[1]: u%1B\n[2]: u%1B\n"),
+    ),
     (
         Look::Plain,
         20,
@@ -140,6 +150,7 @@ fn config_of(alloc: Global, look: &Look) -> Result<Config<PlainDecorator>, Error
             config.style_rules(rules)
         }
         Look::Complete => Ok(config.complete(true)),
+        Look::Printable => Ok(config.shared_footnotes(true).printable_targets(true)),
         Look::SkipHidden => Ok(config.skip_hidden(true)),
         Look::Names(names) => match ReferenceTable::new(alloc, names) {
             Ok(table) => Ok(config.table(table)),
