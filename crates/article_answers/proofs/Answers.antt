@@ -12,7 +12,6 @@ use Rattle.document_laws.specs.Escaped.{KnowsEscapes}
 use Rattle.tree_forest.specs.Forest.{Forest}
 use Rattle.tree_forest.specs.declared.sink.QuirksMode.{QuirksMode}
 use Rattle.lex_base.specs.References.{References}
-use Rattle.html_tree_builder.specs.Defaults.{default_parse}
 use Rattle.std.specs.Prelude.{IsUtf8, chars}
 use Rattle.page_config.specs.PageAnswers.{HasAnswer, IsAnswerOf, PageAnswer, fail, lines, too_narrow}
 use Rattle.page_config.specs.Settings.{PageSetting}
@@ -23,14 +22,15 @@ use Rattle.render_values.specs.Values.{Values}
 use Rattle.dom_styles.specs.declared.rules.StyleRule.{StyleRule}
 use Rattle.text_block_renderer.specs.PlainText.{plain_closes, plain_marking}
 use Rattle.article_writing.specs.Contents.{NumbersFit, article_text, article_tree}
+use Rattle.written_document_laws.specs.Documents.{scripted_parse}
 use Rattle.article_answers.proofs.FilledTexts.{article_filled}
 use Rattle.article_page_laws.specs.Pages.{AreFilledBlocks}
 use Rattle.html_render_tree.specs.PageLines.{Setting}
 
 abbrev pub HasItsTree : Type 0
-HasItsTree = (table : References) → KnowsEscapes table → (title : Option (List ℕ)) (blocks : Blocks)
+HasItsTree = (table : References) (scripting : Bool) → KnowsEscapes table → (title : Option (List ℕ)) (blocks : Blocks)
     (bytes : List ℕ) (forest : Forest) (quirks : QuirksMode) → first_fault title blocks ≡ None → IsUtf8 bytes →
-    chars bytes ≡ article_text title blocks → IsTreeOfBytes table default_parse bytes forest quirks →
+    chars bytes ≡ article_text title blocks → IsTreeOfBytes table (scripted_parse scripting) bytes forest quirks →
     forest ≡ article_tree title blocks
 
 abbrev pub HasItsValues : Type 0
@@ -57,7 +57,7 @@ module _ (tree : HasItsTree) (values : HasItsValues) (laid : IsLaid) (c : PageSe
       (h : HasAnswer plain_marking (λ _. tt) plain_closes c width bytes answer) → h.values ≡ page_values o blocks
   values_are width answer h =
       let same : h.page.forest ≡ article_tree title blocks =
-      tree c.table is.table title blocks bytes h.page.forest h.page.quirks
+      tree c.table c.parsing.tree_builder.scripting_enabled is.table title blocks bytes h.page.forest h.page.quirks
       w.faultless w.utf8 w.text
       (subst (λ p. IsTreeOfBytes c.table p bytes h.page.forest h.page.quirks) is.parsing h.page.tree) in
       sym h.page.same ∙ ap (document_values c.conversion c.rules) same

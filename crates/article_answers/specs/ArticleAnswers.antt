@@ -8,18 +8,18 @@ use Rattle.article_page_laws.specs.ArticlesLaid.{options_by, shown_lines}
 use Rattle.article_values.specs.Articles.{Blocks}
 use Rattle.article_values.specs.Faults.{first_fault}
 use Rattle.document_laws.specs.Escaped.{KnowsEscapes}
-use Rattle.html_tree_builder.specs.Defaults.{default_parse}
 use Rattle.page_config.specs.PageAnswers.{HasAnswer, PageAnswer, lines, too_narrow}
 use Rattle.page_config.specs.Settings.{PageSetting}
 use Rattle.text_lines.specs.Tagged.{Item, line_items}
 use Rattle.text_block_renderer.specs.PlainText.{plain_closes, plain_marking}
 use Rattle.article_writing.specs.Contents.{NumbersFit, article_text}
+use Rattle.written_document_laws.specs.Documents.{scripted_parse}
 
--- Pages are parsed as by default, by a table that knows the names of escaped text; no rules of style stand but those
+-- Pages are parsed as by default, with scripting or without it, by a table that knows the names of escaped text; no rules of style stand but those
 -- that mark emphasis, strong text, terms and code, where these were asked for; and no part may pass the width.
 pub record IsForArticles (c : PageSetting (Unit {0})) : Type 0 where
   pub table : KnowsEscapes c.table
-  pub parsing : c.parsing ≡ default_parse
+  pub parsing : c.parsing ≡ scripted_parse c.parsing.tree_builder.scripting_enabled
   pub rules : AreRulesOf c.decorates c.rules
   pub within : c.rendering.options.allow_width_overflow ≡ false
 

@@ -1,12 +1,13 @@
 //! The law of articles and their pages.
-ghost use Rattle.std.specs.Prelude.{◌≡◌, ℕ, List, Option};
+ghost use Rattle.std.specs.Prelude.{◌≡◌, ℕ, Bool, List, Option};
 ghost use Rattle.article_answers.specs.ArticleAnswers.{IsForArticles, IsWritten, article_answer};
 ghost use Rattle.article_values.specs.Articles.{Blocks};
 ghost use Rattle.document_laws.specs.Escaped.{KnowsEscapes};
 ghost use Rattle.lex_base.specs.References.{References};
 ghost use Rattle.page_config.specs.PageAnswers.{HasAnswer, PageAnswer};
 ghost use Rattle.page_config.specs.PlainPages.{IsPlain};
-ghost use Rattle.page_config.specs.Settings.{PageSetting};
+ghost use Rattle.page_config.specs.Settings.{PageSetting, scripted};
+ghost use Rattle.render_conversion.specs.declared.options.ConversionOptions.{ConversionOptions};
 ghost use Rattle.text_block_renderer.specs.PlainText.{plain_closes, plain_marking};
 
 use article_page_laws::{articles_are_laid, articles_have_their_values};
@@ -27,8 +28,12 @@ pub fn an_article_is_laid_out_as_itself()
 }
 
 /// As plain text is rendered where nothing else is said, articles and their pages are laid out alike, by a table that
-/// knows the names of escaped text.
+/// knows the names of escaped text (`plain`). Where they are, they are so whatever is asked of the conversion, and parsed
+/// with scripting or without it (`asked`): so after `complete` and `skip_hidden`.
 pub fn plain_configurations_are_for_articles()
-    ensures { (table : References) (c : PageSetting (Unit {0})) → KnowsEscapes table → IsPlain table c
+    ensures plain { (table : References) (c : PageSetting (Unit {0})) → KnowsEscapes table → IsPlain table c
         → IsForArticles c }
+    ensures asked { (c : PageSetting (Unit {0})) (scripting : Bool) (conversion : ConversionOptions)
+        → IsForArticles c
+        → IsForArticles (record c { parsing = scripted scripting c.parsing; conversion = conversion }) }
 {}

@@ -14,13 +14,15 @@
 //!   (`page`), or that it is too narrow (`narrow_page`), where the configuration is for articles (`IsForArticles`)
 //! - the same: the clauses `shown`, `fewest`, `exchange` and `paragraphs` of `lay_article`
 //!
-//! A configuration is for articles where pages are parsed as by default, by a table that knows the five names, no
-//! part may pass the width, and the rules of style are those of `do_decorate`, or none where that was not called;
-//! so are `Config::plain`, `plain_no_decorate` and all that comes of them without `style_rules`,
+//! A configuration is for articles where pages are parsed as by default, with scripting or without it, by a table that
+//! knows the five names, no part may pass the width, and the rules of style are those of `do_decorate`, or none where
+//! that was not called; so are `Config::plain`, `plain_no_decorate` and all that comes of them without `style_rules`,
 //! `allow_width_overflow` and `parse_opts`. Of any other configuration `layout` gives the article's lines too,
 //! which its page need not have.
 //!
-//! `plain_configurations_are_for_articles` says so of `Config::plain` (`IsPlain`) with such a table.
+//! `plain_configurations_are_for_articles` says so of `Config::plain` (`IsPlain`) with such a table, and that a
+//! configuration stays one for articles whatever is asked of the conversion, and parsed with scripting or without it:
+//! so after `complete` and `skip_hidden`.
 //!
 //! The law says nothing of whether there is an answer, which is where memory is found (`a_page_has_an_answer`). The
 //! edits change what is said of the article; that an article's first numbers are numbers of 64 bits is

@@ -11,13 +11,12 @@ ghost use Rattle.tree_forest.specs.declared.sink.QuirksMode.TheVariants.{NoQuirk
 ghost use Rattle.lex_base.specs.References.{References};
 ghost use Rattle.tree_serializer.specs.Walks.{walk_text};
 ghost use Rattle.tree_serializer.specs.declared.options.TraversalScope.TheVariants.{ChildrenOnly};
-ghost use Rattle.html_tree_builder.specs.Defaults.{default_parse};
 ghost use Rattle.html_tree_builder.specs.Grown.{IsTreeOfPage, beginning};
 ghost use Rattle.page_reading.specs.PageTrees.{IsTreeOfBytes};
 ghost use Rattle.document_laws.specs.Contents.{IsBlocks};
 ghost use Rattle.page_decoding.specs.ReplacedText.{replaced_text};
 ghost use Rattle.article_writing.specs.Contents.{NumbersFit, article_text, article_tree, content_of_blocks};
-ghost use Rattle.written_document_laws.specs.Documents.{HoldsNoNul, HoldsNoReturn};
+ghost use Rattle.written_document_laws.specs.Documents.{HoldsNoNul, HoldsNoReturn, scripted_parse};
 
 use html_render_dom::Handle;
 use written_document_laws::{
@@ -36,13 +35,14 @@ pub fn accepted_articles_are_documents()
         HoldsNoReturn title (content_of_blocks blocks) }
 {}
 
-/// The page that is written of an article is parsed, as any page is, into the article's own tree and no other: its
-/// elements and its texts, and no text is read as markup.
+/// The page that is written of an article is parsed, as any page is, with scripting or without it, into the article's
+/// own tree and no other: its elements and its texts, and no text is read as markup.
 pub fn a_written_article_has_its_tree<H>()
-    ensures { (handle : ℕ → H) (table : References) → KnowsEscapes table → (title : Option (List ℕ)) (blocks : Blocks)
-        (forest : Forest) (quirks : Quirks) → first_fault title blocks ≡ None →
-        IsTreeOfPage handle (beginning table default_parse page_alone NoQuirks) (article_text title blocks) forest
-        quirks → forest ≡ article_tree title blocks }
+    ensures { (handle : ℕ → H) (table : References) (scripting : Bool) → KnowsEscapes table →
+        (title : Option (List ℕ)) (blocks : Blocks) (forest : Forest) (quirks : Quirks) →
+        first_fault title blocks ≡ None →
+        IsTreeOfPage handle (beginning table (scripted_parse scripting) page_alone NoQuirks)
+        (article_text title blocks) forest quirks → forest ≡ article_tree title blocks }
 {
     a_documents_tree_at_once();
     a_written_page_has_its_tree::<H>();
@@ -66,10 +66,10 @@ pub fn utf8_is_read_as_its_text()
 
 /// So the tree of the bytes of a written article is the article's own.
 pub fn bytes_of_an_article_have_its_tree()
-    ensures { (table : References) → KnowsEscapes table → (title : Option (List ℕ)) (blocks : Blocks)
-        (bytes : List ℕ) (forest : Forest) (quirks : Quirks) → first_fault title blocks ≡ None → IsUtf8 bytes →
-        chars bytes ≡ article_text title blocks → IsTreeOfBytes table default_parse bytes forest quirks →
-        forest ≡ article_tree title blocks }
+    ensures { (table : References) (scripting : Bool) → KnowsEscapes table → (title : Option (List ℕ))
+        (blocks : Blocks) (bytes : List ℕ) (forest : Forest) (quirks : Quirks) → first_fault title blocks ≡ None →
+        IsUtf8 bytes → chars bytes ≡ article_text title blocks →
+        IsTreeOfBytes table (scripted_parse scripting) bytes forest quirks → forest ≡ article_tree title blocks }
 {
     a_written_article_has_its_tree::<Handle>();
     utf8_is_read_as_its_text();

@@ -13,9 +13,9 @@
 //!
 //! - `accepted_articles_are_documents`: an article is a document (`IsBlocks`), without NUL and CR: so all laws of
 //!   written_document_laws hold of it
-//! - `a_written_article_has_its_tree`: parsed by default options, with a table of references that knows those of
-//!   escaped text, in any sink of trees, what is written of an article has the article's tree and no other: its
-//!   elements and texts, none of them read as markup
+//! - `a_written_article_has_its_tree`: parsed as by default, with scripting or without it, with a table of references
+//!   that knows those of escaped text, in any sink of trees, what is written of an article has the article's tree and no
+//!   other: its elements and texts, none of them read as markup
 //! - `bytes_of_an_article_have_its_tree`: the same of the bytes of that text, however they are cut
 //!   (`IsTreeOfBytes`)
 //! - `utf8_is_read_as_its_text`: bytes that are UTF-8 are read as their text

@@ -1,6 +1,8 @@
 -- What is written of a document (WHATWG HTML, 13.3, "serializing HTML fragments"), and when it is read back.
 use Rattle.std.specs.Prelude.{◌≡◌, ℕ, Bool, false, List, [], ◌∷◌, ◌++◌, Option, None, Some, codes, if◌then◌else◌}
 use Rattle.tree_forest.specs.Forest.{is_in}
+use Rattle.html_tree_builder.specs.Defaults.{default_parse}
+use Rattle.html_tree_builder.specs.declared.options.ParseOpts.{ParseOpts}
 use Rattle.token_grammar.specs.Items.{Item, characters, comment, doctype, end_of_file, error, null_character, tag}
 use Rattle.token_grammar.specs.Meaning.{Meaning}
 use Rattle.html_lexemes.specs.declared.names.Attribute.{Attribute}
@@ -78,3 +80,9 @@ abbrev pub AreRepliedTo : {A H : Type 0} → Meaning A H → A → List Item →
 AreRepliedTo means state [] = Unit {0}
 AreRepliedTo means state (item ∷ items) =
     IsRepliedTo means state item × AreRepliedTo means (means.step state item) items
+
+-- Pages are parsed as by default, with scripting or without it (13.2.4.5).
+abbrev pub scripted_parse : (scripting : Bool) → ParseOpts
+scripted_parse scripting = record default_parse {
+  tree_builder = record default_parse.tree_builder { scripting_enabled = scripting };
+}

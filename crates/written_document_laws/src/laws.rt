@@ -12,7 +12,6 @@ ghost use Rattle.lex_base.specs.References.{References};
 ghost use Rattle.tree_serializer.specs.Walks.{calls_of, walk_text};
 ghost use Rattle.tree_serializer.specs.declared.options.TraversalScope.{TraversalScope as Scope};
 ghost use Rattle.tree_serializer.specs.declared.options.TraversalScope.TheVariants.{ChildrenOnly};
-ghost use Rattle.html_tree_builder.specs.Defaults.{default_parse};
 ghost use Rattle.html_tree_builder.specs.Grown.{IsTreeOfPage, beginning};
 ghost use Rattle.page_tree_laws.specs.KeptText.{IsAtBeginning};
 ghost use Rattle.document_laws.specs.Contents.{Content, IsBlocks};
@@ -20,6 +19,7 @@ ghost use Rattle.document_laws.specs.Rebuilt.{document_tokens, document_tree};
 ghost use Rattle.rules_table.specs.Settling.{meaning};
 ghost use Rattle.rules_table.specs.State.{State};
 ghost use Rattle.written_document_laws.specs.Documents.{AreRepliedTo, HoldsNoNul, HoldsNoReturn, document_text};
+ghost use Rattle.written_document_laws.specs.Documents.{scripted_parse};
 ghost use Rattle.written_document_laws.specs.Emissions.{document_calls};
 ghost use Rattle.written_document_laws.specs.Trees.{whole_tree};
 ghost use Rattle.written_document_laws.specs.Written.{AreReadBack, items_text, mode_after_all, ordinary};
@@ -105,13 +105,14 @@ pub fn a_written_document_is_written_back<H>()
     a_written_document_has_its_tree::<H>();
 }
 
-/// The page that is written of a document has the document's tree and no other, where it is parsed as any page is.
+/// The page that is written of a document has the document's tree and no other, where it is parsed as any page is, with
+/// scripting or without it.
 pub fn a_written_page_has_its_tree<H>()
-    ensures { (handle : ℕ → H) (table : References) → KnowsEscapes table → (title : Option (List ℕ))
-        (content : Content) (forest : Forest) (quirks : Quirks) → HoldsNoNul title content →
-        HoldsNoReturn title content → IsBlocks false content →
-        IsTreeOfPage handle (beginning table default_parse page_alone NoQuirks) (document_text title content) forest
-        quirks → forest ≡ document_tree title content }
+    ensures { (handle : ℕ → H) (table : References) (scripting : Bool) → KnowsEscapes table →
+        (title : Option (List ℕ)) (content : Content) (forest : Forest) (quirks : Quirks) →
+        HoldsNoNul title content → HoldsNoReturn title content → IsBlocks false content →
+        IsTreeOfPage handle (beginning table (scripted_parse scripting) page_alone NoQuirks)
+        (document_text title content) forest quirks → forest ≡ document_tree title content }
 {
     a_page_alone_is_a_forest();
     a_page_is_at_its_beginning();

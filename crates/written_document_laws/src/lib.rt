@@ -22,8 +22,8 @@
 //!   whether its own node is counted or not
 //! - `a_written_document_is_written_back`: what is written again of the tree to which a written document is read is
 //!   the same text
-//! - `a_written_page_has_its_tree`: parsed by default options, in any sink of trees, a written document without CR
-//!   in its title, texts and values has its own tree and no other (`IsTreeOfPage`)
+//! - `a_written_page_has_its_tree`: parsed as by default, with scripting or without it, in any sink of trees, a
+//!   written document without CR in its title, texts and values has its own tree and no other (`IsTreeOfPage`)
 //! - `no_text_is_two_documents`: two documents of which the same text is written are equal
 //! - `a_written_document_is_a_page_text`: a written document without CR in its title, texts and values is a page's
 //!   text as it stands: nothing of it is dropped before the grammar reads it
