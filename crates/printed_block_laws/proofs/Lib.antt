@@ -1,0 +1,10 @@
+pub mod BlockTexts
+pub mod BorderTexts
+pub mod ControlWidths
+pub mod LaidPrinted
+pub mod NormalLines
+pub mod PreservedLines
+pub mod PreservedWords
+pub mod PrintedItems
+pub mod RowsAcross
+pub mod RowsPrinted
