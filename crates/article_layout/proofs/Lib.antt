@@ -3,6 +3,7 @@ pub mod ExchangedLines
 pub mod InlineLemmas
 pub mod LaidLines
 pub mod ListLemmas
+pub mod NoteLines
 pub mod ParagraphLines
 pub mod QuoteSteps
 pub mod SaidRuns
