@@ -1,0 +1,9 @@
+pub mod BeginsPrinted
+pub mod BlockWords
+pub mod DecoratorTexts
+pub mod NotesPrinted
+pub mod PagesPrinted
+pub mod RenderersPrinted
+pub mod StepsPrinted
+pub mod TablesPrinted
+pub mod ValuesPrinted
