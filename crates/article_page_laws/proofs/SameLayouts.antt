@@ -11,6 +11,7 @@ use Rattle.article_definitions.specs.Layouts.{least_text, lines_of_stretches, ma
 use Rattle.article_definitions.specs.Layouts.{parted, prefixed, room, room_of_numbers, says, stretches, to_room}
 use Rattle.article_definitions.specs.Layouts.{unless_shallow, within}
 use Rattle.article_definitions.specs.Layouts as wide
+use Rattle.text_footnotes.specs.Printable.{shown_targets}
 use Rattle.text_footnotes.specs.Targets.{last_number, noted_targets}
 use Rattle.article_page_laws.specs.PlainArticles.{PlainBlocks, PlainInlines, PlainItems, PlainStyle, bold, bullets}
 use Rattle.article_page_laws.specs.PlainArticles.{code, division, emphasis, heading, italic, item, line_break, link}
@@ -176,7 +177,7 @@ module _ (o : Options) where
     item_room_stays (item kids rest) = ap (λ n. max n (wide.least_of_items o (wide_items rest))) (room_stays kids)
         ∙ ap (λ n. max (least_of o kids) n) (item_room_stays rest)
 
-  module _ (unshared : o.shares_footnotes ≡ false) where
+  module _ (unshared : o.shares_footnotes ≡ false) (unprinted : o.prints_targets ≡ false) where
     mark_counts : (ts : List (List ℕ)) (n : ℕ) → length ts ≡ n → wide.number_mark o ts ≡ number_mark o n
     mark_counts ts n many =
         ap (λ b. if o.footnotes then codes "[" ++ decimal (last_number b ts) ++ codes "]" else []) unshared
@@ -316,20 +317,22 @@ module _ (o : Options) where
           least (next_number at) rest (put new)
           (longer ts (wide.targets_of o (wide_blocks kids)) (targets_of o kids) n many (links_stay kids))) laid
 
-    abbrev with_notes : ℕ → (shared : Bool) → List (List ℕ) → List Line → List Line
-    with_notes width shared targets lines = if o.footnotes && is_filled targets
-        then parted o width lines ++ notes o width (noted_targets shared targets) else lines
+    abbrev with_notes : ℕ → (shared prints : Bool) → List (List ℕ) → List Line → List Line
+    with_notes width shared prints targets lines = if o.footnotes && is_filled targets
+        then parted o width lines ++ notes o width (shown_targets prints (noted_targets shared targets)) else lines
 
     layout_stays : (width : ℕ) (blocks : PlainBlocks) →
-        option_map (with_notes width o.shares_footnotes (wide.targets_of o (wide_blocks blocks)))
+        option_map (with_notes width o.shares_footnotes o.prints_targets (wide.targets_of o (wide_blocks blocks)))
         (wide.lay o width 0 [] (wide_blocks blocks) [])
-        ≡ option_map (with_notes width false (targets_of o blocks)) (lay o width 0 0 blocks [])
+        ≡ option_map (with_notes width false false (targets_of o blocks)) (lay o width 0 0 blocks [])
     layout_stays width blocks =
-        ap (λ b. option_map (with_notes width b (wide.targets_of o (wide_blocks blocks)))
+        ap (λ b. option_map (with_notes width b o.prints_targets (wide.targets_of o (wide_blocks blocks)))
         (wide.lay o width 0 [] (wide_blocks blocks) [])) unshared
-        ∙ ap (λ t. option_map (with_notes width false t) (wide.lay o width 0 [] (wide_blocks blocks) []))
+        ∙ ap (λ b. option_map (with_notes width false b (wide.targets_of o (wide_blocks blocks)))
+        (wide.lay o width 0 [] (wide_blocks blocks) [])) unprinted
+        ∙ ap (λ t. option_map (with_notes width false false t) (wide.lay o width 0 [] (wide_blocks blocks) []))
         (links_stay blocks)
-        ∙ ap (option_map (with_notes width false (targets_of o blocks))) (lay_stays width blocks 0 [] 0 [] refl)
+        ∙ ap (option_map (with_notes width false false (targets_of o blocks))) (lay_stays width blocks 0 [] 0 [] refl)
 
     pub lines_stay : (width : ℕ) (blocks : PlainBlocks) →
         wide.article_lines o width (wide_blocks blocks) ≡ plain_lines o width blocks

@@ -57,8 +57,8 @@
 //!
 //! - `written_text_stays`: what is written of such an article is what the definition that knows no quote and no
 //!   strong text gives
-//! - `lines_stay`: so are its lines where no links share a footnote, and it has none just where that definition
-//!   gives none
+//! - `lines_stay`: so are its lines where no links share a footnote and targets stand as they are, and it has none just
+//!   where that definition gives none
 //!
 //! So what was written of articles before they could hold quotes and strong text, and their lines, are as they
 //! were.

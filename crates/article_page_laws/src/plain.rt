@@ -12,9 +12,9 @@ pub fn written_text_stays()
         ≡ plain_text title blocks }
 {}
 
-/// Its lines, where no links share a footnote, are those that the definition which knows neither quotes nor strong text
-/// nor shared footnotes gives, and it has none just where that gives none.
+/// Its lines, where no links share a footnote and targets stand as they are, are those that the definition which knows
+/// neither quotes nor strong text nor these options gives, and it has none just where that gives none.
 pub fn lines_stay()
     ensures { (o : Options) (width : ℕ) (blocks : PlainBlocks) → o.shares_footnotes ≡ false
-        → article_lines o width (wide_blocks blocks) ≡ plain_lines o width blocks }
+        → o.prints_targets ≡ false → article_lines o width (wide_blocks blocks) ≡ plain_lines o width blocks }
 {}
