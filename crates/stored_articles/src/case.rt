@@ -50,7 +50,7 @@ fn set_option(options: &mut LineOptions, field: &str) -> Result<()> {
         Some(("min_wrap_width", columns)) => options.min_wrap_width = columns.parse()?,
         Some(("link_footnotes", "false")) => options.footnotes = false,
         Some(("shared_footnotes", "true")) => options.shares_footnotes = true,
-        Some(("printable_targets", "true")) => options.prints_targets = true,
+        Some(("printable_targets", printable)) => options.prints_targets = printable.parse()?,
         Some(("do_decorate", "false")) => options.decorates = false,
         None if field == "pad_block_width" => options.pads = true,
         _ => bail!("no option has the name {field}"),
