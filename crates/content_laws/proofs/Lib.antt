@@ -1,0 +1,6 @@
+mod NormalLine
+mod PreservedLine
+mod SourceColumns
+mod UnitLemmas
+mod WhiteColumns
+mod Widest

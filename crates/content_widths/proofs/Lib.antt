@@ -1,0 +1,4 @@
+pub mod FlowLemmas
+pub mod LineLemmas
+pub mod TogetherLemmas
+pub mod WordLemmas

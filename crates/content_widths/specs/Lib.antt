@@ -1,0 +1,3 @@
+pub mod Flows
+pub mod Reading
+pub mod Texts
