@@ -60,7 +60,7 @@ impl OpenTable {
 }
 
 impl Reading {
-    /// Nothing was read of so many values. The error is allocation failure alone.
+    /// Nothing of the values was read; `values` is how many there are. The error is allocation failure alone.
     pub(crate) fn new(alloc: Global, values: usize) -> Result<Reading, AllocError>
         ensures { (options : SeenOptions) → IfOk result (λ r. IsPassing options r nothing_passed) }
     {

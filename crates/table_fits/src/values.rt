@@ -223,7 +223,7 @@ fn end_table(
     }
 }
 
-// after a prefix of so many columns
+// after a prefix that takes `columns` columns
 fn after_prefix(columns: usize, inside: ContentWidths) -> ContentWidths
     ensures { result ≡ after_prefix columns inside }
 {
