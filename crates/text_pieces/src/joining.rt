@@ -49,9 +49,10 @@ fn has_tags<T: EqualCopy>(piece: &Piece<T>, main_tag: &T, wrap_tag: &T) -> bool
     }
 }
 
-// Adds to the text of the last piece.
+/// Adds to the text of the last piece, which goes on with its tags; a marker stays as it is. The error is allocation
+/// failure alone.
 #[inline(always)]
-fn extend_last<T: EqualCopy + Drop>(
+pub fn extend_last<T: EqualCopy + Drop>(
     pieces: &mut Vec<Piece<T>>,
     text: &str,
 ) -> Result<(), AllocError>

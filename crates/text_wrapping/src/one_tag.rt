@@ -1,11 +1,11 @@
 //! Adding text of one tag at the end of pieces.
-ghost use Rattle.std.specs.Prelude.{◌≡◌, ◌<◌, ◌++◌, chars, vec_len, IfOk, OnOk, IsTrue};
+ghost use Rattle.std.specs.Prelude.{◌≡◌, ◌++◌, chars, IfOk, OnOk, IsTrue};
 ghost use Rattle.text_pieces.specs.Sources.{sourced, sources_of, text_sources, wrap_seen};
-ghost use Rattle.text_pieces.specs.Joins.{HasTags, EndsWithTags, Extends};
+ghost use Rattle.text_pieces.specs.Joins.{HasTags, EndsWithTags};
 
 use std::alloc::{AllocError, Global};
 use text_lines::{EqualCopy, roomy_copy};
-use text_pieces::{Piece, TextPiece};
+use text_pieces::{Piece, TextPiece, extend_last};
 
 /// Adds characters with that tag, where a preserved line was wrapped too, at the end; they join the last piece, where
 /// it has no other. The error is allocation failure alone.
@@ -54,32 +54,6 @@ fn has_only_tag<T: EqualCopy>(piece: &TextPiece<T>, tag: &T) -> bool
     match &piece.wrap_tag {
         Some(_) => false,
         None => piece.main_tag == *tag,
-    }
-}
-
-/// Adds to the text of the last piece.
-#[inline(always)]
-fn extend_last<T: EqualCopy + Drop>(
-    pieces: &mut Vec<Piece<T>>,
-    text: &str,
-) -> Result<(), AllocError>
-    requires { 0 < vec_len pieces.old }
-    ensures { OnOk result ((main further : T.Seen) → EndsWithTags T.seen main further pieces.old.items
-        → sources_of T.seen pieces.new.items
-        ≡ sources_of T.seen pieces.old.items ++ sourced (chars text.now) main further) }
-{
-    let last = pieces.len() - 1;
-    extend(&mut pieces[last], text)
-}
-
-/// Adds to the text; a marker stays as it is.
-#[inline(always)]
-fn extend<T>(piece: &mut Piece<T>, text: &str) -> Result<(), AllocError>
-    ensures { OnOk result (Extends piece.old piece.new text.now) }
-{
-    match piece {
-        Piece::Text(piece) => piece.text.push_str(text),
-        Piece::Fragment(_) => Ok(()),
     }
 }
 
