@@ -11,6 +11,7 @@ default_options = record {
   raw = false;
   draw_borders = true;
   fence_tables = false;
+  fit_columns = false;
   wrap_links = true;
   include_link_footnotes = false;
   shared_footnotes = false;

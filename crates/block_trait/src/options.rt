@@ -15,6 +15,8 @@ pub struct RenderOptions {
     pub draw_borders: bool,
     /// Whether tables stand between fences of three backticks.
     pub fence_tables: bool,
+    /// Whether the columns of a table are fitted to the words of its cells: as wide as these need, where they fit.
+    pub fit_columns: bool,
     /// Whether the targets of links after the text are cut at the width.
     pub wrap_links: bool,
     /// Whether the targets of links stand after the text.
@@ -59,6 +61,7 @@ impl Default for RenderOptions {
             raw: false,
             draw_borders: true,
             fence_tables: false,
+            fit_columns: false,
             wrap_links: true,
             include_link_footnotes: false,
             shared_footnotes: false,

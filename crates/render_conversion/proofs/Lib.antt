@@ -1,6 +1,7 @@
 pub mod CompleteLemmas
 pub mod DocumentLemmas
 pub mod HidingLemmas
+pub mod InsideLemmas
 pub mod NodeLemmas
 pub mod NumberLemmas
 pub mod StackLemmas
@@ -8,4 +9,5 @@ pub mod StepLemmas
 pub mod StyleLemmas
 pub mod TextLemmas
 pub mod TitleLemmas
+pub mod VisitLemmas
 pub mod WaitingLemmas

@@ -1,7 +1,7 @@
 use Rattle.std.proofs.Common.{[], ◌∷◌, ◌++◌, ◌∙◌, ap}
 use Rattle.std.specs.Prelude.{None}
 use Rattle.render_values.specs.declared.info.RenderInfo.TheVariants.{Table}
-use Rattle.render_conversion.proofs.StepLemmas.{table_by}
+use Rattle.render_conversion.proofs.VisitLemmas.{table_by}
 use Rattle.render_conversion.proofs.walk.start_table.Goals as goal
 
 pub returns : goal.returns

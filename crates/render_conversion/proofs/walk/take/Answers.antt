@@ -1,7 +1,7 @@
 use Rattle.std.proofs.Common.{OnOk, ◌∷◌, subst, sym}
 use Rattle.render_conversion.specs.Styles.{styles_of}
 use Rattle.render_conversion.specs.Turns.{AreOpen, IsDone}
-use Rattle.render_conversion.proofs.StepLemmas.{close_by, closing_by}
+use Rattle.render_conversion.proofs.VisitLemmas.{close_by, closing_by}
 use Rattle.render_conversion.proofs.walk.take.Goals as goal
 
 pub returns-in-Close : goal.returns-in-Close

@@ -1,6 +1,6 @@
 use Rattle.render_conversion.specs.Seen.{seen_parts}
 use Rattle.render_conversion.specs.Styles.{styles_of}
-use Rattle.render_conversion.proofs.StepLemmas.{after_ok}
+use Rattle.render_conversion.proofs.VisitLemmas.{after_ok}
 use Rattle.render_conversion.proofs.walk.trailing.Goals as goal
 
 pub returns : goal.returns

@@ -4,7 +4,8 @@ use Rattle.render_conversion.specs.Conversion.{content}
 use Rattle.render_conversion.specs.Seen.{seen_parts}
 use Rattle.render_conversion.specs.Styles.{styles_of}
 use Rattle.render_conversion.specs.Turns.{trailings}
-use Rattle.render_conversion.proofs.StepLemmas.{hidden_done, unseen_done, visit_after}
+use Rattle.render_conversion.proofs.StepLemmas.{hidden_done, unseen_done}
+use Rattle.render_conversion.proofs.VisitLemmas.{visit_after}
 use Rattle.render_conversion.proofs.walk.visit.Goals as goal
 
 pub returns-then-not-is_shown : goal.returns-then-not-is_shown
