@@ -11,7 +11,7 @@ use Rattle.render_values.specs.Values.{Values}
 use Rattle.layout_values.specs.Lay.{laid_parts}
 use Rattle.block_trait.specs.declared.options.RenderOptions.{RenderOptions}
 use Rattle.text_block_renderer.specs.PlainText.{plain_marking}
-use Rattle.article_page_laws.specs.Measures.{plain_measure}
+use Rattle.article_page_laws.specs.Measures.{plain_sizing}
 use Rattle.article_page_laws.specs.Pages.{AreFilledBlocks, Place, page_of, parts_at, whole}
 use Rattle.article_page_laws.proofs.BlocksWalked.{blocks_walked, contained, contained_is, here, o, walk}
 use Rattle.article_page_laws.proofs.PagesLaid.{Layings, twice}
@@ -28,7 +28,7 @@ module _ (given : RenderOptions) (decorates : Bool) (min_wrap : ℕ) (held : Uni
       ∙ contained_is given decorates min_wrap held inside (at p ts b)
 
   pub page_walked : (width : ℕ) (blocks : Blocks) → AreFilledBlocks blocks →
-      laid_parts plain_marking (plain_measure (o given decorates min_wrap held))
+      laid_parts plain_marking (plain_sizing given (o given decorates min_wrap held))
       (page_values (o given decorates min_wrap held) blocks) (whole given held width)
       ≡ option_map (parts_at given held (page_of width) (targets_of (o given decorates min_wrap held) blocks) [])
       (run_blocks (o given decorates min_wrap held) width [] blocks nothing_laid)

@@ -30,7 +30,7 @@ use Rattle.block_trait.specs.Calls.{ends_block, ends_line, starts_block}
 use Rattle.block_trait.specs.declared.options.RenderOptions.{RenderOptions}
 use Rattle.text_block_renderer.specs.PlainText.{plain_marking}
 use Rattle.text_decorators.specs.Marks.{header, quote as quote_mark}
-use Rattle.article_page_laws.specs.Measures.{plain_measure}
+use Rattle.article_page_laws.specs.Measures.{plain_measure, plain_sizing}
 use Rattle.article_page_laws.specs.Pages.{AreFilled, AreFilledBlocks, AreFilledItems, Place}
 use Rattle.article_page_laws.proofs.InlinesWalked.{are_walked, around_it, next, unstyled}
 use Rattle.article_page_laws.proofs.Leasts.{bullet_columns, least_of_inlines, least_of_item_values, least_of_values}
@@ -73,7 +73,7 @@ module _ (given : RenderOptions) (decorates : Bool) (min_wrap : ℕ) (held : Uni
   part = put given decorates min_wrap held
 
   abbrev pub walk : Values → Step (Unit {0}) (Unit {0})
-  walk vs = lay plain_marking (plain_measure o) vs
+  walk vs = lay plain_marking (plain_sizing given o) vs
 
   abbrev least : RenderInfo → Values → ℕ
   least info inside = (extent_of (plain_measure o) (plain_head info) inside).least
@@ -137,7 +137,7 @@ module _ (given : RenderOptions) (decorates : Bool) (min_wrap : ℕ) (held : Uni
 
   abbrev pub contained : Values → Step (Unit {0}) (Unit {0})
   contained inside = styled plain_marking plain (shown plain_marking (plain_head infos.Container)
-      (content_of (plain_measure o) (plain_head infos.Container) inside) (walk inside))
+      (content_of (plain_sizing given o) (plain_head infos.Container) inside) (walk inside))
 
   pub contained_is : (inside : Values) (l : Layings) → contained inside l ≡ walk inside l
   unfolding begins ends holds leading following style_begins

@@ -18,13 +18,14 @@ use Rattle.render_values.specs.Plain.{plain_head}
 use Rattle.render_values.specs.Values.{Values, joined, none, value}
 use Rattle.render_values.specs.declared.info.Head.{Head}
 use Rattle.render_values.specs.declared.info.RenderInfo.TheVariants as infos
+use Rattle.layout_values.specs.Sizing.{within as within_value}
 use Rattle.layout_values.specs.Lay.{content_of, holds, laid, lay}
 use Rattle.block_trait.specs.Calls.{ends_mark, starts_mark}
 use Rattle.block_trait.specs.declared.options.RenderOptions.{RenderOptions}
 use Rattle.text_block_renderer.specs.PlainText.{plain_marking}
 use Rattle.text_decorators.specs.Marks.{Mark, code_end, code_start, emphasis_end, emphasis_start, strong_end}
 use Rattle.text_decorators.specs.Marks.{strong_start}
-use Rattle.article_page_laws.specs.Measures.{plain_measure}
+use Rattle.article_page_laws.specs.Measures.{plain_sizing}
 use Rattle.article_page_laws.specs.Pages.{AreFilled, Place}
 use Rattle.article_page_laws.proofs.PagesLaid.{Layings, broke, laying, link_begun, link_ended, m, mark_begun}
 use Rattle.article_page_laws.proofs.PagesLaid.{mark_ended, o, said}
@@ -75,13 +76,14 @@ module _ (given : RenderOptions) (decorates : Bool) (min_wrap : ℕ) (held : Uni
   ms = m given decorates min_wrap held
 
   abbrev walk : Values → Step (Unit {0}) (Unit {0})
-  walk vs = lay plain_marking (plain_measure article) vs
+  walk vs = lay plain_marking (plain_sizing given article) vs
 
   -- ---- values
 
   abbrev walk_alone : Head → Values → Step (Unit {0}) (Unit {0})
   walk_alone head inside =
-      laid plain_marking head (content_of (plain_measure article) head inside) (walk inside)
+      laid plain_marking head (content_of (plain_sizing given article) head inside)
+      (lay plain_marking (within_value (plain_sizing given article) head) inside)
 
   walk_joined : (xs ys : Values) (l : Layings) → walk (joined xs ys) l ≡ option_and_then (walk ys) (walk xs l)
   walk_joined none ys l = refl

@@ -7,7 +7,7 @@ ghost use Rattle.article_definitions.specs.Calls.{measure, run};
 ghost use Rattle.article_definitions.specs.Layouts.{Options, Tag, least_in, least_of, least_of_items, outermost};
 ghost use Rattle.article_definitions.specs.Layouts.{parts_of, room_of_numbers, targets_in, targets_of};
 ghost use Rattle.article_values.specs.Articles.{Blocks, Inlines, Items};
-ghost use Rattle.article_page_laws.specs.Measures.{plain_measure};
+ghost use Rattle.article_page_laws.specs.Measures.{plain_measure, plain_sizing};
 ghost use Rattle.article_page_laws.specs.Pages.{AreFilled, AreFilledBlocks, Place, laying_at, options_of, page_of};
 ghost use Rattle.article_page_laws.specs.Pages.{parts_at, whole};
 ghost use Rattle.block_layout.specs.Laid.{Laid, nothing_laid};
@@ -44,7 +44,8 @@ pub fn values_of_a_paragraph_are_its_calls()
     ensures { (given : RenderOptions) (decorates : Bool) (min_wrap : ℕ) (held : Unit {0}) (place : Place)
         (targets : List (List ℕ)) (tag : Tag) (block : Laid Tag) (inlines : Inlines) → AreFilled inlines
         → block.awaits ≡ false → let o = options_of given decorates min_wrap in
-        lay plain_marking (plain_measure o) (values_of_inlines o inlines) (laying_at given held place targets tag block)
+        lay plain_marking (plain_sizing given o) (values_of_inlines o inlines)
+        (laying_at given held place targets tag block)
         ≡ option_map (laying_at given held place (targets ++ targets_in o inlines) tag)
         (run (measure o place.width) (parts_of o tag targets inlines) block) }
 {}
@@ -56,7 +57,7 @@ pub fn values_of_blocks_are_their_calls()
     ensures { (given : RenderOptions) (decorates : Bool) (min_wrap : ℕ) (held : Unit {0}) (place : Place)
         (targets : List (List ℕ)) (block : Laid Tag) (blocks : Blocks) → AreFilledBlocks blocks
         → let o = options_of given decorates min_wrap in
-        lay plain_marking (plain_measure o) (values_of_blocks o blocks)
+        lay plain_marking (plain_sizing given o) (values_of_blocks o blocks)
         (laying_at given held place targets outermost block)
         ≡ option_map (laying_at given held place (targets ++ targets_of o blocks) outermost)
         (run_blocks o place.width targets blocks block) }
@@ -68,7 +69,7 @@ pub fn values_of_blocks_are_their_calls()
 pub fn values_of_a_page_are_its_calls()
     ensures { (given : RenderOptions) (decorates : Bool) (min_wrap : ℕ) (held : Unit {0}) (width : ℕ) (blocks : Blocks)
         → AreFilledBlocks blocks → let o = options_of given decorates min_wrap in
-        laid_parts plain_marking (plain_measure o) (page_values o blocks) (whole given held width)
+        laid_parts plain_marking (plain_sizing given o) (page_values o blocks) (whole given held width)
         ≡ option_map (parts_at given held (page_of width) (targets_of o blocks) outermost)
         (run_blocks o width [] blocks nothing_laid) }
 {}

@@ -5,4 +5,5 @@ pub mod NumberLemmas
 pub mod OptionLemmas
 mod PageLemmas
 pub mod SeenRules
+mod SizingLemmas
 pub mod TextWidths

@@ -9,4 +9,5 @@ pub use Rattle.layout_state.specs.Begins
 pub use Rattle.layout_state.specs.LayoutState
 pub use Rattle.layout_state.specs.declared.around.Around
 pub use Rattle.layout_values.specs.Lay
+pub use Rattle.layout_values.specs.Sizing
 pub use Rattle.text_block_renderer.specs.Parts

@@ -1,5 +1,5 @@
 -- The lines of a page.
-use Rattle.std.specs.Prelude.{ℕ, Bool, List, [], ◌∷◌, ◌++◌, Option, Some, if◌then◌else◌, flat_map, map}
+use Rattle.std.specs.Prelude.{ℕ, Bool, List, [], ◌∷◌, ◌++◌, None, Option, Some, if◌then◌else◌, flat_map, map}
 use Rattle.std.specs.Option.{option_and_then, option_map}
 use Rattle.block_renderer.specs.Footnotes.{add_footnotes}
 use Rattle.text_footnotes.specs.Printable.{shown_targets}
@@ -11,9 +11,11 @@ use Rattle.text_lines.specs.Tagged.{Item, characters}
 use Rattle.text_block_renderer.specs.Parts.{Parts, whole_page}
 use Rattle.text_borders.specs.Lines.{line_shown}
 use Rattle.text_decorators.specs.Marks.{page_end, seen_lines}
-use Rattle.render_sizes.specs.Extents.{measure_of}
+use Rattle.render_sizes.specs.Extents.{Measure, measure_of}
 use Rattle.render_values.specs.Values.{Values}
 use Rattle.layout_values.specs.Lay.{laid_parts}
+use Rattle.layout_values.specs.Sizing.{Sizing}
+use Rattle.text_pieces.specs.declared.white_space.WhiteSpace.TheVariants.{Normal}
 pub use Rattle.layout_state.specs.Items.{prefix_columns}
 
 -- what a page is rendered by: the options, how narrow text may be wrapped, and what a decorator of the page holds
@@ -26,15 +28,23 @@ pub record Setting (H : Type 0) : Type 0 where
 abbrev pub begun_as : {H A : Type 0} → (keeps : Bool) → Sub H A → Sub H A
 begun_as keeps s = if keeps then s else bare_of s
 
+-- columns of tables are fitted where that is asked for
+abbrev pub sizing_by : RenderOptions → Measure → Sizing
+sizing_by o w = record { measure = w; fitted = if o.fit_columns then Some o else None; mode = Normal }
+
+-- how many columns values of a page ask for
+abbrev pub sizing_of : {H A : Type 0} → Marking H A → Setting H → Sizing
+sizing_of m c = sizing_by c.options (measure_of c.min_wrap (prefix_columns (m.mark_text c.held)))
+
 -- the renderers of a page of so many columns after its last value
 abbrev pub laid_page : {H A : Type 0} → Marking H A → Setting H → ℕ → Values → Option (Parts H A)
-laid_page m c width values = laid_parts m (measure_of c.min_wrap (prefix_columns (m.mark_text c.held))) values
-    (whole_page (new_sub width c.options c.held []))
+laid_page m c width values =
+    laid_parts m (sizing_of m c) values (whole_page (new_sub width c.options c.held []))
 
 -- the same in renderers that keep annotations or don't
 abbrev pub laid_as : {H A : Type 0} → (keeps : Bool) → Marking H A → Setting H → ℕ → Values → Option (Parts H A)
-laid_as keeps m c width values = laid_parts m (measure_of c.min_wrap (prefix_columns (m.mark_text c.held))) values
-    (whole_page (begun_as keeps (new_sub width c.options c.held [])))
+laid_as keeps m c width values =
+    laid_parts m (sizing_of m c) values (whole_page (begun_as keeps (new_sub width c.options c.held [])))
 
 -- the targets that stand after a page with such options: each once, where links to equal targets share a footnote, and
 -- printable, where that is asked for

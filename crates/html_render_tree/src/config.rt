@@ -203,6 +203,20 @@ impl<D: TextDecorator + Drop> RenderConfig<D> {
         config
     }
 
+    /// Whether the columns of tables are fitted to the words of their cells: where a table can have the columns
+    /// without which a word of its cells must be cut, none of its columns has less, and where it can have the columns
+    /// with which no line of its cells is wrapped, they have these.
+    pub fn fit_columns(self, fit: bool) -> RenderConfig<D>
+        ensures setting { setting_of D.view result ≡ with_options (setting_of D.view self)
+            (record (setting_of D.view self).options { fit_columns = fit }) }
+        ensures rules { rules_of result ≡ rules_of self }
+        ensures conversion { conversion_of result ≡ conversion_of self }
+    {
+        let mut config = self;
+        config.options.fit_columns = fit;
+        config
+    }
+
     /// The targets of links after the page are not cut at the width.
     pub fn no_link_wrapping(self) -> RenderConfig<D>
         ensures setting { setting_of D.view result ≡ with_options (setting_of D.view self)

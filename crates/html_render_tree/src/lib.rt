@@ -11,7 +11,7 @@
 //! end.
 //!
 //! - `RenderConfig::with_decorator`, and each option: `pad_block_width`, `max_wrap_width`, `min_wrap_width`,
-//!   `allow_width_overflow`, `raw_mode`, `no_table_borders`, `fence_tables`, `no_link_wrapping`,
+//!   `allow_width_overflow`, `raw_mode`, `no_table_borders`, `fence_tables`, `fit_columns`, `no_link_wrapping`,
 //!   `unicode_strikeout`, `link_footnotes`, `shared_footnotes`, `printable_targets`, `empty_img_mode`: the options,
 //!   the narrowest wrap and the rules of style that a configuration has, and that each call changes its own alone, to
 //!   just this; `raw_mode` takes the borders of tables away too, whichever mode is asked for

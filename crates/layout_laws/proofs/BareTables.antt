@@ -14,7 +14,8 @@ use Rattle.text_decorators.specs.Marks.{header, quote}
 use Rattle.table_grid.specs.declared.columns.Column.{Column}
 use Rattle.table_widths.specs.Slots.{Table, has_columns, is_shown}
 use Rattle.table_widths.specs.declared.slot.Slot.{Slot}
-use Rattle.render_sizes.specs.Extents.{Measure}
+use Rattle.column_fits.specs.declared.fit.ColumnFit.{ColumnFit}
+use Rattle.layout_values.specs.Sizing.{Sizing, within}
 use Rattle.render_values.specs.Values.{Values, none, value}
 use Rattle.render_values.specs.declared.info.Head.{Head}
 use Rattle.render_values.specs.declared.info.RenderInfo.{RenderInfo}
@@ -92,15 +93,16 @@ rows_alike {m = m} laws t widths f g same = record {
       (turn f g _ _ same (table_ends laws fenced l.table))).at l;
 }
 
-columns_alike : {H A : Type 0} {m : Marking H A} (laws : BareLaws m) (t : Table) (columns : List Column)
-    (f g : Step H A) → Alike f g → Alike (columns_laid m t columns f) (columns_laid m t columns g)
-columns_alike laws t [] f g same = stays
-columns_alike laws t (c ∷ columns) f g same = record { at = λ l. (rows_alike laws t _ f g same).at l }
+columns_alike : {H A : Type 0} {m : Marking H A} (laws : BareLaws m) (t : Table) (fits : Option (List ColumnFit))
+    (columns : List Column) (f g : Step H A) → Alike f g
+    → Alike (columns_laid m t fits columns f) (columns_laid m t fits columns g)
+columns_alike laws t fits [] f g same = stays
+columns_alike laws t fits (c ∷ columns) f g same = record { at = λ l. (rows_alike laws t _ f g same).at l }
 
-table_alike : {H A : Type 0} {m : Marking H A} (laws : BareLaws m) (t : Table) (f g : Step H A) → Alike f g
-    → Alike (table_laid m t f) (table_laid m t g)
+table_alike : {H A : Type 0} {m : Marking H A} (laws : BareLaws m) (t : Table) (fits : Option (List ColumnFit))
+    (f g : Step H A) → Alike f g → Alike (table_laid m t fits f) (table_laid m t fits g)
 unfolding table_laid
-table_alike laws t f g same = columns_alike laws t t.columns f g same
+table_alike laws t fits f g same = columns_alike laws t fits t.columns f g same
 
 -- ---- its rows
 
@@ -218,7 +220,7 @@ holds_alike laws infos.Quote c f g same = mark_alike laws quote c.least f g same
 holds_alike laws infos.Details c f g same = prefix_alike laws 2 (spaces 2) (spaces 2) c.least f g same
 holds_alike {m = m} laws infos.Bullets c f g same = list_alike m Bullet c.items c.least f g same
 holds_alike {m = m} laws (infos.Numbers first) c f g same = list_alike m (Number first) c.items c.least f g same
-holds_alike laws infos.Table c f g same = table_alike laws c.table f g same
+holds_alike laws infos.Table c f g same = table_alike laws c.table c.fits f g same
 holds_alike laws infos.Nothing c f g same = same
 holds_alike laws (infos.Text cs) c f g same = same
 holds_alike laws (infos.Image source title) c f g same = same
@@ -356,18 +358,18 @@ laid_alike laws head c (cells widths more fragments slots made) f g same =
 
 -- ---- values
 
-lay_alike : {H A : Type 0} {m : Marking H A} (laws : BareLaws m) (w : Measure) (values : Values)
+lay_alike : {H A : Type 0} {m : Marking H A} (laws : BareLaws m) (w : Sizing) (values : Values)
     → Alike (lay m w values) (lay m w values)
 lay_alike laws w none = stays
 lay_alike {m = m} laws w (value head inside rest) =
-    let here = laid m head (content_of w head inside) (lay m w inside) in
+    let here = laid m head (content_of w head inside) (lay m (within w head) inside) in
     turn here here (lay m w rest) (lay m w rest)
     (record {
-      at = λ l. (laid_alike laws head (content_of w head inside) l.table _ _ (lay_alike laws w inside)).at l;
+      at = λ l. (laid_alike laws head (content_of w head inside) l.table _ _ (lay_alike laws (within w head) inside)).at l;
     })
     (lay_alike laws w rest)
 
-pub parts_alike : {H A : Type 0} {m : Marking H A} (laws : BareLaws m) (w : Measure) (values : Values) (p : Parts H A)
+pub parts_alike : {H A : Type 0} {m : Marking H A} (laws : BareLaws m) (w : Sizing) (values : Values) (p : Parts H A)
     → laid_parts m w values (bare_parts p) ≡ option_map bare_parts (laid_parts m w values p)
 parts_alike {m = m} laws w values p =
     ap (option_map (λ l. l.parts)) ((lay_alike laws w values).at (on_page p))

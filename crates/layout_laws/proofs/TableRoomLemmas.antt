@@ -13,7 +13,8 @@ use Rattle.text_block_renderer.specs.Parts.{Parts}
 use Rattle.table_grid.specs.declared.columns.Column.{Column}
 use Rattle.table_widths.specs.Slots.{Table, has_columns, is_shown}
 use Rattle.table_widths.specs.declared.slot.Slot.{Slot}
-use Rattle.render_sizes.specs.Extents.{Measure}
+use Rattle.column_fits.specs.declared.fit.ColumnFit.{ColumnFit}
+use Rattle.layout_values.specs.Sizing.{Sizing, within}
 use Rattle.render_values.specs.Values.{Values, none, value}
 use Rattle.render_values.specs.declared.info.Head.{Head}
 use Rattle.render_values.specs.declared.info.RenderInfo.{RenderInfo}
@@ -66,15 +67,15 @@ rows_go {m = m} laws t widths inside goes x room =
     (table_begins laws options fenced widths (rows_of widths t))
     (goes_through inside (table_ended m fenced x.table) goes (table_ends laws fenced x.table room.1)) x room
 
-columns_go : {H A : Type 0} {m : Marking H A} (laws : RoomLaws m) (t : Table) (columns : List Column)
-    (inside : Step H A) → Goes inside → Goes (columns_laid m t columns inside)
-columns_go laws t [] inside goes = goes_by
-columns_go laws t (c ∷ columns) inside goes = λ x room. rows_go laws t _ inside goes x room
+columns_go : {H A : Type 0} {m : Marking H A} (laws : RoomLaws m) (t : Table) (fits : Option (List ColumnFit))
+    (columns : List Column) (inside : Step H A) → Goes inside → Goes (columns_laid m t fits columns inside)
+columns_go laws t fits [] inside goes = goes_by
+columns_go laws t fits (c ∷ columns) inside goes = λ x room. rows_go laws t _ inside goes x room
 
-table_goes : {H A : Type 0} {m : Marking H A} (laws : RoomLaws m) (t : Table) (inside : Step H A) → Goes inside
-    → Goes (table_laid m t inside)
+table_goes : {H A : Type 0} {m : Marking H A} (laws : RoomLaws m) (t : Table) (fits : Option (List ColumnFit))
+    (inside : Step H A) → Goes inside → Goes (table_laid m t fits inside)
 unfolding table_laid
-table_goes laws t inside goes = columns_go laws t t.columns inside goes
+table_goes laws t fits inside goes = columns_go laws t fits t.columns inside goes
 
 -- ---- its rows
 
@@ -183,7 +184,7 @@ holds_goes laws infos.Division c inside goes = goes
 holds_goes laws infos.Preformatted c inside goes = goes
 holds_goes laws infos.Descriptions c inside goes = goes
 holds_goes laws infos.Term c inside goes = goes
-holds_goes laws infos.Table c inside goes = table_goes laws c.table inside goes
+holds_goes laws infos.Table c inside goes = table_goes laws c.table c.fits inside goes
 holds_goes laws infos.TableGroup c inside goes = goes
 holds_goes laws infos.TableRow c inside goes = goes
 holds_goes laws (infos.TableCell columns taken) c inside goes = goes
@@ -305,14 +306,14 @@ laid_goes laws head c (cells widths more fragments slots made) inside x goes at 
 -- ---- values
 
 -- no width is too narrow where characters may overflow
-pub lay_goes : {H A : Type 0} {m : Marking H A} (laws : RoomLaws m) (w : Measure) (values : Values)
+pub lay_goes : {H A : Type 0} {m : Marking H A} (laws : RoomLaws m) (w : Sizing) (values : Values)
     → Goes (lay m w values)
 lay_goes laws w none x room = room
 lay_goes {m = m} laws w (value head inside rest) x room = given_chained Roomy Roomy (lay m w rest)
-    (laid m head (content_of w head inside) (lay m w inside) x) (lay_goes laws w rest)
-    (laid_goes laws head (content_of w head inside) x.table (lay m w inside) x (lay_goes laws w inside) room.1 room)
+    (laid m head (content_of w head inside) (lay m (within w head) inside) x) (lay_goes laws w rest)
+    (laid_goes laws head (content_of w head inside) x.table (lay m (within w head) inside) x (lay_goes laws (within w head) inside) room.1 room)
 
-pub parts_laid : {H A : Type 0} {m : Marking H A} (laws : RoomLaws m) (w : Measure) (values : Values) (p : Parts H A)
+pub parts_laid : {H A : Type 0} {m : Marking H A} (laws : RoomLaws m) (w : Sizing) (values : Values) (p : Parts H A)
     → HaveRoom p → IsSomeAnd (option_map (λ l. l.parts) (lay m w values (on_page p))) HaveRoom
 parts_laid {H} {A} {m} laws w values p room = given_mapped Roomy HaveRoom (λ (l : LayoutState H A). l.parts)
     (lay m w values (on_page p)) (λ l h. h.0) (lay_goes laws w values (on_page p) (room, tt))

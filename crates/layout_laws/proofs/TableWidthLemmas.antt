@@ -6,7 +6,9 @@ use Rattle.std.specs.Option.{option_and_then}
 use Rattle.block_layout_laws.proofs.OptionLemmas.{chained, mapped}
 use Rattle.block_layout.specs.Laid.{Laid, add_horizontal_border, add_text, flush, is_ignored, start_awaited}
 use Rattle.block_layout.specs.Laid.{start_table}
-use Rattle.table_widths.specs.Across.{FitAcross, widths_across}
+use Rattle.column_fits.specs.Across.{AreFits}
+use Rattle.column_fits.specs.declared.fit.ColumnFit.{ColumnFit}
+use Rattle.table_widths.specs.Across.{FitAcross}
 use Rattle.render_sizes.specs.Extents.{capped}
 use Rattle.block_trait.specs.Calls.{Call, step}
 use Rattle.block_trait.specs.Calls as calls
@@ -24,7 +26,7 @@ use Rattle.layout_state.specs.LayoutState.{LayoutState, Step, TablePlace, cells,
 use Rattle.layout_state.specs.LayoutState.{rows, says}
 use Rattle.layout_state.specs.declared.around.Around.TheVariants.{Flow}
 use Rattle.layout_tables.specs.Tables.{border_call, columns_laid, fence, is_fenced, rows_laid, rows_of, separated}
-use Rattle.layout_tables.specs.Tables.{table_begun, table_ended, table_laid, table_widths, top_border}
+use Rattle.layout_tables.specs.Tables.{table_begun, table_ended, table_laid, table_widths, top_border, widths_by}
 use Rattle.layout_laws.proofs.RowFitLemmas.{seats_of, some_known}
 use Rattle.layout_laws.proofs.TableStates.{FitsCells, FitsRows, IsSoundTable, table_fits}
 use Rattle.layout_laws.proofs.WidthLemmas.{AreCalm, AreSound, At, Keeps, Kept, Steps, WidthLaws, either_keeps, keeps_by}
@@ -323,26 +325,33 @@ rows_keep {H} {A} {m} laws t widths inside in_cell x table fits does sound at =
     (steps_through (InRows widths) (InRows widths) (At in_cell Flow) inside (table_ended m fenced x.table) does
     (table_ends laws in_cell widths fenced x.table at.1)) x sound (at, refl)
 
-widths_fit : {H A : Type 0} {m : Marking H A} (laws : WidthLaws m) (options : RenderOptions) (width : ℕ)
-    (columns : List Column) → IfSome (table_widths options width columns) (FitAcross columns width)
-widths_fit laws options width columns = by options.raw
+widths_fit : {H A : Type 0} {m : Marking H A} (laws : WidthLaws m) (options : RenderOptions)
+    (fits : Option (List ColumnFit)) (width : ℕ) (columns : List Column) → IfSome fits (AreFits columns)
+    → IfSome (table_widths options fits width columns) (FitAcross columns width)
+widths_fit laws options fits width columns fit = by options.raw
   where
-    by : (b : Bool) → IfSome (if b then None else widths_across columns width) (FitAcross columns width)
+    by_fits : (f : Option (List ColumnFit)) → IfSome f (AreFits columns)
+        → IfSome (widths_by f width columns) (FitAcross columns width)
+    by_fits None h = laws.across columns width
+    by_fits (Some f) h = laws.fitted columns f width h
+
+    by : (b : Bool) → IfSome (if b then None else widths_by fits width columns) (FitAcross columns width)
     by true = tt
-    by false = laws.across columns width
+    by false = by_fits fits fit
 
-columns_keep : {H A : Type 0} {m : Marking H A} (laws : WidthLaws m) (t : Table) (columns : List Column)
-    (inside : Step H A) → IsSoundTable t
+columns_keep : {H A : Type 0} {m : Marking H A} (laws : WidthLaws m) (t : Table) (fits : Option (List ColumnFit))
+    (columns : List Column) (inside : Step H A) → IsSoundTable t → IfSome fits (AreFits t.columns)
     → ((widths : Option (List ℕ)) → Steps (InRows widths) (InRows widths) inside)
-    → Keeps Flow Flow (columns_laid m t columns inside)
-columns_keep laws t [] inside table does = keeps_by Flow
-columns_keep laws t (c ∷ columns) inside table does = λ in_cell x sound at.
-    rows_keep laws t (table_widths x.parts.current.options (capped x.parts.current.width) t.columns) inside in_cell x
-    table (widths_fit laws x.parts.current.options (capped x.parts.current.width) t.columns)
-    (does (table_widths x.parts.current.options (capped x.parts.current.width) t.columns)) sound at
+    → Keeps Flow Flow (columns_laid m t fits columns inside)
+columns_keep laws t fits [] inside table fit does = keeps_by Flow
+columns_keep laws t fits (c ∷ columns) inside table fit does = λ in_cell x sound at.
+    rows_keep laws t (table_widths x.parts.current.options fits (capped x.parts.current.width) t.columns) inside
+    in_cell x table (widths_fit laws x.parts.current.options fits (capped x.parts.current.width) t.columns fit)
+    (does (table_widths x.parts.current.options fits (capped x.parts.current.width) t.columns)) sound at
 
-pub table_keeps : {H A : Type 0} {m : Marking H A} (laws : WidthLaws m) (t : Table) (inside : Step H A)
-    → IsSoundTable t → ((widths : Option (List ℕ)) → Steps (InRows widths) (InRows widths) inside)
-    → Keeps Flow Flow (table_laid m t inside)
+pub table_keeps : {H A : Type 0} {m : Marking H A} (laws : WidthLaws m) (t : Table) (fits : Option (List ColumnFit))
+    (inside : Step H A) → IsSoundTable t → IfSome fits (AreFits t.columns)
+    → ((widths : Option (List ℕ)) → Steps (InRows widths) (InRows widths) inside)
+    → Keeps Flow Flow (table_laid m t fits inside)
 unfolding table_laid
-table_keeps laws t inside table does = columns_keep laws t t.columns inside table does
+table_keeps laws t fits inside table fit does = columns_keep laws t fits t.columns inside table fit does

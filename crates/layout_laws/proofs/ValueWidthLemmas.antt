@@ -11,7 +11,10 @@ use Rattle.text_block_renderer.specs.Parts.{Parts}
 use Rattle.text_decorators.specs.Marks.{header, quote}
 use Rattle.table_widths.specs.Slots.{is_shown}
 use Rattle.table_widths.specs.declared.slot.Slot.{Slot}
-use Rattle.render_sizes.specs.Extents.{Measure, number}
+use Rattle.render_sizes.specs.Extents.{number}
+use Rattle.column_fits.specs.Across.{AreFits}
+use Rattle.layout_values.proofs.FitLemmas.{content_fits}
+use Rattle.layout_values.specs.Sizing.{Sizing, within}
 use Rattle.render_values.specs.Values.{Values, none, value}
 use Rattle.render_values.specs.declared.info.Head.{Head}
 use Rattle.render_values.specs.declared.info.RenderInfo.{RenderInfo}
@@ -47,8 +50,13 @@ pub record KeepsInside {H A : Type 0} (m : Marking H A) (items : ℕ) (f : Step 
 
 -- ---- outside of tables
 
+-- what stands in a value that is a table
+record IsSoundContent (c : Content) : Type 0 where
+  table : IsSoundTable c.table
+  fits : IfSome c.fits (AreFits c.table.columns)
+
 holds_keeps : {H A : Type 0} {m : Marking H A} (laws : WidthLaws m) (info : RenderInfo) (c : Content)
-    (inside : Step H A) → IsNumbered info → IsSoundTable c.table → KeepsAll m c.items inside
+    (inside : Step H A) → IsNumbered info → IsSoundContent c → KeepsAll m c.items inside
     → ((widths : Option (List ℕ)) → Steps (InRows widths) (InRows widths) inside)
     → Keeps Flow Flow (holds m info c inside)
 unfolding holds
@@ -79,7 +87,7 @@ holds_keeps {m = m} laws infos.Division c inside fits table keeps among = keeps_
 holds_keeps {m = m} laws infos.Preformatted c inside fits table keeps among = keeps_flow m c.items inside keeps
 holds_keeps {m = m} laws infos.Descriptions c inside fits table keeps among = keeps_flow m c.items inside keeps
 holds_keeps {m = m} laws infos.Term c inside fits table keeps among = keeps_flow m c.items inside keeps
-holds_keeps laws infos.Table c inside fits table keeps among = table_keeps laws c.table inside table among
+holds_keeps laws infos.Table c inside fits table keeps among = table_keeps laws c.table c.fits inside table.table table.fits among
 holds_keeps {m = m} laws infos.TableGroup c inside fits table keeps among = keeps_flow m c.items inside keeps
 holds_keeps {m = m} laws infos.TableRow c inside fits table keeps among = keeps_flow m c.items inside keeps
 holds_keeps {m = m} laws (infos.TableCell columns taken) c inside fits table keeps among =
@@ -97,7 +105,7 @@ following_among {H} {A} {m} laws head widths = by (fragment_leads head.info)
         (λ name. rows_named laws widths name)
 
 shown_keeps : {H A : Type 0} {m : Marking H A} (laws : WidthLaws m) (head : Head) (c : Content) (inside : Step H A)
-    → IsNumbered head.info → IsSoundTable c.table → KeepsInside m c.items inside
+    → IsNumbered head.info → IsSoundContent c → KeepsInside m c.items inside
     → Keeps Flow Flow (shown m head c inside)
 shown_keeps {m = m} laws head c inside fits table keeps =
     keeps_through Flow Flow Flow _ _ (leading_keeps laws head)
@@ -247,7 +255,7 @@ in_row_keeps {m = m} laws (infos.TableCell columns taken) head items inside widt
 -- ---- a value
 
 outside_keeps : {H A : Type 0} {m : Marking H A} (laws : WidthLaws m) (head : Head) (c : Content) (inside : Step H A)
-    → IsNumbered head.info → IsSoundTable c.table → KeepsInside m c.items inside → (a : Around) → MarkFits m a
+    → IsNumbered head.info → IsSoundContent c → KeepsInside m c.items inside → (a : Around) → MarkFits m a
     → Keeps a (next_around a) (laid m head c inside)
 outside_keeps {m = m} laws head c inside fits table keeps a marked in_cell x sound at =
     subst (λ place. IfSome (laid_at m head c place inside x) (Kept (At in_cell (next_around a)) x)) (sym at.1)
@@ -273,7 +281,7 @@ laid_in_row {m = m} laws head c inside keeps widths x sound at =
 -- ---- values
 
 -- every line that values give is within the width
-pub lay_keeps : {H A : Type 0} {m : Marking H A} (laws : WidthLaws m) (w : Measure) (values : Values)
+pub lay_keeps : {H A : Type 0} {m : Marking H A} (laws : WidthLaws m) (w : Sizing) (values : Values)
     → AreNumbered values → KeepsInside m (number values) (lay m w values)
 lay_keeps laws w none fits = record {
   flow = λ a marked in_cell. steps_by (At in_cell a);
@@ -281,26 +289,29 @@ lay_keeps laws w none fits = record {
   in_row = λ widths. steps_by (InCells widths);
 }
 lay_keeps {H} {A} {m} laws w (value head inside rest) fits =
-    by (lay_keeps laws w inside fits.1.0) (lay_keeps laws w rest fits.1.1)
+    by (lay_keeps laws (within w head) inside fits.1.0) (lay_keeps laws w rest fits.1.1)
   where
     here : Step H A
-    here = laid m head (content_of w head inside) (lay m w inside)
+    here = laid m head (content_of w head inside) (lay m (within w head) inside)
 
-    by : KeepsInside m (number inside) (lay m w inside) → KeepsInside m (number rest) (lay m w rest)
+    by : KeepsInside m (number inside) (lay m (within w head) inside) → KeepsInside m (number rest) (lay m w rest)
         → KeepsInside m (suc (number rest)) (in_turn here (lay m w rest))
     by one other = record {
       flow = λ a marked. keeps_through a (next_around a) (around_after (number rest) (next_around a)) here
           (lay m w rest)
-          (outside_keeps laws head (content_of w head inside) (lay m w inside) fits.0
-          (table_sound w laws.tables head.info inside) one a marked.0)
+          (outside_keeps laws head (content_of w head inside) (lay m (within w head) inside) fits.0
+          (record {
+            table = table_sound w.measure laws.tables head.info inside;
+            fits = content_fits laws.asked w head inside;
+          }) one a marked.0)
           (other.flow (next_around a) marked.1);
       among = λ widths. steps_through (InRows widths) (InRows widths) (InRows widths) here (lay m w rest)
-          (laid_among laws head (content_of w head inside) (lay m w inside) one widths) (other.among widths);
+          (laid_among laws head (content_of w head inside) (lay m (within w head) inside) one widths) (other.among widths);
       in_row = λ widths. steps_through (InCells widths) (InCells widths) (InCells widths) here (lay m w rest)
-          (laid_in_row laws head (content_of w head inside) (lay m w inside) one widths) (other.in_row widths);
+          (laid_in_row laws head (content_of w head inside) (lay m (within w head) inside) one widths) (other.in_row widths);
     }
 
-pub parts_stay : {H A : Type 0} {m : Marking H A} (laws : WidthLaws m) (w : Measure) (values : Values)
+pub parts_stay : {H A : Type 0} {m : Marking H A} (laws : WidthLaws m) (w : Sizing) (values : Values)
     (p : Parts H A) → AreNumbered values → AreKeptWithin p
     → IfSome (option_map (λ l. l.parts) (lay m w values (on_page p))) (PartsStayWithin p)
 parts_stay {H} {A} {m} laws w values p fits kept =

@@ -8,6 +8,9 @@ use Rattle.std.specs.Option.{option_and_then}
 use Rattle.std.proofs.lemmas.Int.{ints}
 use Rattle.block_layout_laws.proofs.OptionLemmas.{known, mapped, chained}
 use Rattle.block_renderer.specs.NewParts.{part_of}
+use Rattle.column_fits.specs.Across.{AreFits, fitted_across}
+use Rattle.column_fits.specs.declared.fit.ColumnFit.{ColumnFit}
+use Rattle.layout_values.proofs.FitLemmas.{FitsLaw}
 use Rattle.table_widths.specs.Across.{FitAcross, widths_across}
 use Rattle.block_trait.specs.Calls.{Call, step}
 use Rattle.block_trait.specs.Calls as calls
@@ -56,6 +59,9 @@ pub record WidthLaws {H A : Type 0} (m : Marking H A) : Type 0 where
   pub steady : IsSteady m.mark_text
   pub seats : SeatLaws (List A)
   pub across : (columns : List Column) (width : ℕ) → IfSome (widths_across columns width) (FitAcross columns width)
+  pub fitted : (columns : List Column) (fits : List ColumnFit) (width : ℕ) → AreFits columns fits
+      → IfSome (fitted_across columns fits width) (FitAcross columns width)
+  pub asked : FitsLaw
   pub tables : (w : Measure) (values : Values) → AreWholeRows (table_in w values)
 
 -- ---- what a list says

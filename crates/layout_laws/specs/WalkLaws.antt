@@ -1,7 +1,7 @@
 -- Words of the laws on values that are laid out.
 use Rattle.std.specs.Prelude.{◌≡◌, FitsSigned, IsSomeAnd, Some}
 use Rattle.std.specs.Int.{w64}
-use Rattle.render_sizes.specs.Extents.{Measure}
+use Rattle.layout_values.specs.Sizing.{Sizing}
 use Rattle.render_values.specs.Values.{Values, none, value}
 use Rattle.render_values.specs.declared.info.RenderInfo.{RenderInfo}
 use Rattle.render_values.specs.declared.info.RenderInfo.TheVariants as infos
@@ -23,10 +23,10 @@ AreNumbered (value head inside rest) = IsNumbered head.info × (AreNumbered insi
 
 -- Values keep the width: what they are laid in stays within it.
 abbrev pub KeepWidth : {H A : Type 0} → Marking H A → Type 0
-KeepWidth {H} {A} m = (w : Measure) (values : Values) (p new : Parts H A) → IsSteady m.mark_text
+KeepWidth {H} {A} m = (w : Sizing) (values : Values) (p new : Parts H A) → IsSteady m.mark_text
     → AreNumbered values → AreKeptWithin p → laid_parts m w values p ≡ Some new → PartsStayWithin p new
 
 -- Values with room are laid.
 abbrev pub AreLaidWithRoom : {H A : Type 0} → Marking H A → Type 0
-AreLaidWithRoom {H} {A} m = (w : Measure) (values : Values) (p : Parts H A) → HaveRoom p
+AreLaidWithRoom {H} {A} m = (w : Sizing) (values : Values) (p : Parts H A) → HaveRoom p
     → IsSomeAnd (laid_parts m w values p) HaveRoom

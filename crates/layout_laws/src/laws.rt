@@ -8,7 +8,9 @@ use block_laws::{
     renderers_with_room_never_refuse,
 };
 use block_layout_laws::cells_hang_until_a_row;
+use column_fits::fitted_widths_fit;
 use render_sizes::tables_are_sound;
+use table_fits::tables_have_fits;
 use table_widths::widths_across_fit;
 use text_block_renderer::{parts_keep_the_width, parts_with_room_never_refuse};
 use text_borders::cells_keep_their_places;
@@ -25,6 +27,8 @@ pub fn values_keep_the_width<D: TextDecorator>()
     cells_hang_until_a_row::<Vec<D::Annotation>>();
     cells_keep_their_places::<Vec<D::Annotation>>();
     widths_across_fit();
+    fitted_widths_fit();
+    tables_have_fits();
     tables_are_sound();
 }
 

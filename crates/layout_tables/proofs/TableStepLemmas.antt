@@ -20,6 +20,7 @@ use Rattle.layout_state.specs.declared.place.TablePlace.TheVariants.{Cells, Outs
 use Rattle.block_trait.specs.Renderers.{Marking, Sub}
 use Rattle.text_block_renderer.specs.Parts.{Parts, with_current}
 use Rattle.block_trait.specs.declared.options.RenderOptions.{RenderOptions}
+use Rattle.column_fits.specs.declared.fit.ColumnFit.{ColumnFit}
 use Rattle.table_grid.specs.declared.columns.Column.{Column}
 use Rattle.render_sizes.specs.Extents.{capped}
 use Rattle.table_widths.specs.Slots.{Table, has_columns}
@@ -133,14 +134,14 @@ border_keeps {H} {A} m options widths l new h = keeps options.draw_borders h
 pub width_capped : (n width : ℕ) → n ≡ width → n < 2 ^ 64 → n ≡ capped width
 width_capped n width is short = omega (arith, is, short)
 
-some_columns : {H A : Type 0} (m : Marking H A) (t : Table) (columns : List Column) (inside : Step H A)
-    (l : LayoutState H A) (fenced : Bool) (widths : Option (List ℕ)) (o : Option (LayoutState H A))
+some_columns : {H A : Type 0} (m : Marking H A) (t : Table) (fits : Option (List ColumnFit)) (columns : List Column)
+    (inside : Step H A) (l : LayoutState H A) (fenced : Bool) (widths : Option (List ℕ)) (o : Option (LayoutState H A))
     → 0 < length columns → fenced ≡ is_fenced l.parts.current.options l.table
-    → widths ≡ table_widths l.parts.current.options (capped l.parts.current.width) t.columns
+    → widths ≡ table_widths l.parts.current.options fits (capped l.parts.current.width) t.columns
     → table_begun m l.parts.current.options fenced widths (rows_of widths t) l ≡ o
-    → columns_laid m t columns inside l ≡ option_and_then (in_turn inside (table_ended m fenced l.table)) o
-some_columns m t [] inside l fenced widths o some fence_asked wide h = absurd (omega (arith, some))
-some_columns m t (c ∷ columns) inside l fenced widths o some fence_asked wide h =
+    → columns_laid m t fits columns inside l ≡ option_and_then (in_turn inside (table_ended m fenced l.table)) o
+some_columns m t fits [] inside l fenced widths o some fence_asked wide h = absurd (omega (arith, some))
+some_columns m t fits (c ∷ columns) inside l fenced widths o some fence_asked wide h =
     let options = l.parts.current.options in
     ap (λ (v : Option (List ℕ)). option_and_then (in_turn inside (table_ended m (is_fenced options l.table) l.table))
     (table_begun m options (is_fenced options l.table) v (rows_of v t) l)) (sym wide)
@@ -148,29 +149,30 @@ some_columns m t (c ∷ columns) inside l fenced widths o some fence_asked wide 
     (table_begun m options b widths (rows_of widths t) l)) (sym fence_asked)
     ∙ ap (option_and_then (in_turn inside (table_ended m fenced l.table))) h)
 
-pub table_by : {H A : Type 0} (m : Marking H A) (t : Table) (inside : Step H A) (l : LayoutState H A)
-    (options : RenderOptions) (width : ℕ) (fenced : Bool) (widths : Option (List ℕ)) (o : Option (LayoutState H A))
+pub table_by : {H A : Type 0} (m : Marking H A) (t : Table) (fits : Option (List ColumnFit)) (inside : Step H A)
+    (l : LayoutState H A) (options : RenderOptions) (width : ℕ) (fenced : Bool) (widths : Option (List ℕ))
+    (o : Option (LayoutState H A))
     → 0 < length t.columns → options ≡ l.parts.current.options → width ≡ capped l.parts.current.width
-    → fenced ≡ is_fenced options l.table → widths ≡ table_widths options width t.columns
+    → fenced ≡ is_fenced options l.table → widths ≡ table_widths options fits width t.columns
     → table_begun m options fenced widths (rows_of widths t) l ≡ o
-    → table_laid m t inside l ≡ option_and_then (in_turn inside (table_ended m fenced l.table)) o
+    → table_laid m t fits inside l ≡ option_and_then (in_turn inside (table_ended m fenced l.table)) o
 unfolding table_laid
-table_by m t inside l options width fenced widths o some asked broad fence_asked wide h =
-    some_columns m t t.columns inside l fenced widths o some
+table_by m t fits inside l options width fenced widths o some asked broad fence_asked wide h =
+    some_columns m t fits t.columns inside l fenced widths o some
     (fence_asked ∙ ap (λ x. is_fenced x l.table) asked)
-    (wide ∙ (ap (λ (n : ℕ). table_widths options n t.columns) broad
-    ∙ ap (λ x. table_widths x (capped l.parts.current.width) t.columns) asked))
+    (wide ∙ (ap (λ (n : ℕ). table_widths options fits n t.columns) broad
+    ∙ ap (λ x. table_widths x fits (capped l.parts.current.width) t.columns) asked))
     (ap (λ x. table_begun m x fenced widths (rows_of widths t) l) (sym asked) ∙ h)
 
-no_columns : {H A : Type 0} (m : Marking H A) (t : Table) (columns : List Column) (inside : Step H A)
-    (l : LayoutState H A) → length columns ≡ 0 → columns_laid m t columns inside l ≡ Some l
-no_columns m t [] inside l none = refl
-no_columns m t (c ∷ columns) inside l none = absurd (omega (arith, none))
+no_columns : {H A : Type 0} (m : Marking H A) (t : Table) (fits : Option (List ColumnFit)) (columns : List Column)
+    (inside : Step H A) (l : LayoutState H A) → length columns ≡ 0 → columns_laid m t fits columns inside l ≡ Some l
+no_columns m t fits [] inside l none = refl
+no_columns m t fits (c ∷ columns) inside l none = absurd (omega (arith, none))
 
-pub no_table : {H A : Type 0} (m : Marking H A) (t : Table) (inside : Step H A) (l : LayoutState H A)
-    → length t.columns ≡ 0 → table_laid m t inside l ≡ Some l
+pub no_table : {H A : Type 0} (m : Marking H A) (t : Table) (fits : Option (List ColumnFit)) (inside : Step H A)
+    (l : LayoutState H A) → length t.columns ≡ 0 → table_laid m t fits inside l ≡ Some l
 unfolding table_laid
-no_table m t inside l none = no_columns m t t.columns inside l none
+no_table m t fits inside l none = no_columns m t fits t.columns inside l none
 
 -- ---- rows and cells
 

@@ -3,6 +3,8 @@ use Rattle.std.specs.Prelude.{◌+◌, ◌-◌, ◌&&◌, if◌then◌else◌, [
 use Rattle.std.specs.Prelude.{false, filter, length, map, not, sum, take, true, ℕ}
 use Rattle.std.specs.List.{prefix_len}
 use Rattle.std.specs.Option.{option_to_list}
+use Rattle.column_fits.specs.Across.{fitted_across}
+use Rattle.column_fits.specs.declared.fit.ColumnFit.{ColumnFit}
 use Rattle.block_renderer.specs.NewParts.{part_of}
 use Rattle.table_widths.specs.Across.{widths_across}
 use Rattle.block_trait.specs.Calls.{Call, adds_border, adds_border_of, adds_cells, adds_rows_below, adds_text}
@@ -22,9 +24,14 @@ separated widths = capped (sum widths + (length widths - 1))
 
 -- ---- the table
 
+-- Columns are fitted where it is known what each asks for.
+abbrev pub widths_by : Option (List ColumnFit) → (width : ℕ) → List Column → Option (List ℕ)
+widths_by None width columns = widths_across columns width
+widths_by (Some fits) width columns = fitted_across columns fits width
+
 -- the widths of its columns where its rows lie across, in so many columns of text (of which there are fewer than 2^64)
-abbrev pub table_widths : RenderOptions → (width : ℕ) → List Column → Option (List ℕ)
-table_widths options width columns = if options.raw then None else widths_across columns width
+abbrev pub table_widths : RenderOptions → Option (List ColumnFit) → (width : ℕ) → List Column → Option (List ℕ)
+table_widths options fits width columns = if options.raw then None else widths_by fits width columns
 
 abbrev pub rows_of : Option (List ℕ) → Table → List (List Slot)
 rows_of None t = t.rows
@@ -61,17 +68,18 @@ rows_laid m t widths inside l =
     in_turn (table_begun m options fenced widths (rows_of widths t))
     (in_turn inside (table_ended m fenced l.table)) l
 
-abbrev pub table_by_widths : {H A : Type 0} → Marking H A → Table → Step H A → Step H A
-table_by_widths m t inside l =
-    rows_laid m t (table_widths l.parts.current.options (capped l.parts.current.width) t.columns) inside l
+abbrev pub table_by_widths : {H A : Type 0} → Marking H A → Table → Option (List ColumnFit) → Step H A → Step H A
+table_by_widths m t fits inside l =
+    rows_laid m t (table_widths l.parts.current.options fits (capped l.parts.current.width) t.columns) inside l
 
 -- A table without a column shows nothing.
-abbrev pub columns_laid : {H A : Type 0} → Marking H A → Table → List Column → Step H A → Step H A
-columns_laid m t [] inside = Some
-columns_laid m t (c ∷ columns) inside = table_by_widths m t inside
+abbrev pub columns_laid : {H A : Type 0} → Marking H A → Table → Option (List ColumnFit) → List Column → Step H A
+    → Step H A
+columns_laid m t fits [] inside = Some
+columns_laid m t fits (c ∷ columns) inside = table_by_widths m t fits inside
 
-unfoldable pub table_laid : {H A : Type 0} → Marking H A → Table → Step H A → Step H A
-table_laid m t inside = columns_laid m t t.columns inside
+unfoldable pub table_laid : {H A : Type 0} → Marking H A → Table → Option (List ColumnFit) → Step H A → Step H A
+table_laid m t fits inside = columns_laid m t fits t.columns inside
 
 -- ---- its rows
 

@@ -1,3 +1,4 @@
+pub mod FitLemmas
 pub mod OpenLemmas
 pub mod StepLemmas
 pub mod TableOpenLemmas

@@ -5,7 +5,7 @@ use Rattle.std.specs.Option.{option_and_then}
 use Rattle.block_trait.specs.Renderers.{Marking, Sub}
 use Rattle.text_lines.specs.Columns.{text_columns}
 use Rattle.text_decorators.specs.Marks.{Mark}
-use Rattle.render_sizes.specs.Extents.{Measure}
+use Rattle.layout_values.specs.Sizing.{Sizing}
 use Rattle.render_values.specs.Looks.{plain}
 use Rattle.render_values.specs.declared.info.Head.{Head}
 use Rattle.render_values.specs.declared.info.RenderInfo.{RenderInfo}
@@ -26,13 +26,13 @@ use Rattle.layout_state.proofs.StepLemmas.{then_same, then_then, turn_off, turn_
 use Rattle.layout_values.proofs.StepLemmas.{nothing_waits, one_more, one_waits}
 
 -- what waits in a box
-pub box_waits : {X H A : Type 0} (m : Marking H A) (w : Measure) (f : X → Continuation H A) (boxed x : X)
+pub box_waits : {X H A : Type 0} (m : Marking H A) (w : Sizing) (f : X → Continuation H A) (boxed x : X)
     (whole o : Option (LayoutState H A)) → boxed ≡ x → whole ≡ option_and_then (unwound m w (f x ∷ [])) o
     → whole ≡ option_and_then (unwound m w (f boxed ∷ [])) o
 box_waits m w f boxed x whole o is h = h ∙ ap (λ y. option_and_then (unwound m w (f y ∷ [])) o) (sym is)
 
 -- what waited in a box is done
-pub unboxed : {X H A : Type 0} (m : Marking H A) (w : Measure) (f : X → Continuation H A) (boxed x : X)
+pub unboxed : {X H A : Type 0} (m : Marking H A) (w : Sizing) (f : X → Continuation H A) (boxed x : X)
     (l : LayoutState H A)
     (o : Option (LayoutState H A)) → x ≡ boxed → undone m w (f x) l ≡ o → undone m w (f boxed) l ≡ o
 unboxed m w f boxed x l o is h = ap (λ y. undone m w (f y) l) (sym is) ∙ h
@@ -47,7 +47,7 @@ part_by m outer first following one other l o e f h =
     ap (λ (bs : List ℕ). part_ended m outer (chars bs) (chars following) l) (sym e)
     ∙ (ap (λ (bs : List ℕ). part_ended m outer (chars one) (chars bs) l) (sym f) ∙ h)
 
-pub part_opens : {H A : Type 0} (m : Marking H A) (w : Measure) (columns least : ℕ) (first following : List ℕ)
+pub part_opens : {H A : Type 0} (m : Marking H A) (w : Sizing) (columns least : ℕ) (first following : List ℕ)
     (inside : Step H A) (old new : LayoutState H A) (outer : Sub H A) → part_begun m columns least old ≡ Some new
     → outer ≡ old.parts.current → after_prefix m columns first following least inside old
     ≡ option_and_then (unwound m w (part_ends outer first following ∷ [])) (inside new)
@@ -85,7 +85,7 @@ spaces_open m columns least first following one other inside l o e f h =
 
 -- ---- lists
 
-pub items_open : {H A : Type 0} (m : Marking H A) (w : Measure) (first last : ItemMark) (items least columns : ℕ)
+pub items_open : {H A : Type 0} (m : Marking H A) (w : Sizing) (first last : ItemMark) (items least columns : ℕ)
     (inside : Step H A) (old new : LayoutState H A) → last ≡ last_mark first items
     → columns ≡ item_columns m first last old
     → new ≡ in_around (Items first columns least) old
@@ -95,7 +95,7 @@ items_open m w first last items least columns inside old new is wide set =
     (sym (wide ∙ ap (λ x. item_columns m first x old) is))
     ∙ (ap (λ x. option_and_then (goes_on Flow) (inside x)) (sym set) ∙ one_waits m w list_ends (inside new))
 
-pub item_opens : {H A : Type 0} (m : Marking H A) (w : Measure) (mark next : ItemMark) (columns least : ℕ)
+pub item_opens : {H A : Type 0} (m : Marking H A) (w : Sizing) (mark next : ItemMark) (columns least : ℕ)
     (first following : List ℕ) (inside : Step H A) (old mid new : LayoutState H A) (outer : Sub H A) → mid ≡ old
     → first ≡ padded columns (mark_of m (item_mark mark) old) → following ≡ spaces columns → next ≡ next_mark mark
     → part_begun m columns least mid ≡ Some new → outer ≡ mid.parts.current
@@ -132,7 +132,7 @@ no_item_opens {H} {A} m mark columns least inside old mid same h =
 -- ---- values
 
 -- what stands in a value that is no part stands where it is
-pub held_alone : {H A : Type 0} (m : Marking H A) (w : Measure) (info : RenderInfo) (c : Content)
+pub held_alone : {H A : Type 0} (m : Marking H A) (w : Sizing) (info : RenderInfo) (c : Content)
     (inside : Step H A) (l : LayoutState H A) → ((level : ℕ) → info ≡ infos.Heading level → ⊥) →
     (info ≡ infos.Quote → ⊥)
     → (info ≡ infos.Bullets → ⊥) → ((first : ℤ) → info ≡ infos.Numbers first → ⊥) → (info ≡ infos.Details → ⊥)
@@ -166,12 +166,12 @@ held_alone m w infos.TableRow content inside l a b c d e f = nothing_waits m w (
 held_alone m w (infos.TableCell columns rows) content inside l a b c d e f = nothing_waits m w (inside l)
 
 pub table_holds : {H A : Type 0} (m : Marking H A) (info : RenderInfo) (c : Content) (inside : Step H A)
-    (l : LayoutState H A) (o : Option (LayoutState H A)) → info ≡ infos.Table → table_laid m c.table inside l ≡ o
+    (l : LayoutState H A) (o : Option (LayoutState H A)) → info ≡ infos.Table → table_laid m c.table c.fits inside l ≡ o
     → holds m info c inside l ≡ o
 unfolding holds
 table_holds m info c inside l o is h = ap (λ i. holds m i c inside l) is ∙ h
 
-pub plain_opens : {H A : Type 0} (m : Marking H A) (w : Measure) (style : RenderStyle) (inside : Step H A)
+pub plain_opens : {H A : Type 0} (m : Marking H A) (w : Sizing) (style : RenderStyle) (inside : Step H A)
     (l : LayoutState H A) → style ≡ plain → styled m style inside l ≡ option_and_then (unwound m w []) (inside l)
 unfolding style_begins style_ends
 plain_opens m w style inside l e = ap (λ s. styled m s inside l) e
@@ -181,7 +181,7 @@ plain_opens m w style inside l e = ap (λ s. styled m s inside l) e
     ends_here None = nothing_waits m w None
     ends_here (Some x) = nothing_waits m w (Some x)
 
-pub look_opens : {H A : Type 0} (m : Marking H A) (w : Measure) (style : RenderStyle) (inside : Step H A)
+pub look_opens : {H A : Type 0} (m : Marking H A) (w : Sizing) (style : RenderStyle) (inside : Step H A)
     (old new : LayoutState H A) → style_begins m style old ≡ Some new
     → styled m style inside old ≡ option_and_then (unwound m w (look_ends style ∷ [])) (inside new)
 look_opens m w style inside old new h =
@@ -192,7 +192,7 @@ pub no_look_opens : {H A : Type 0} (m : Marking H A) (style : RenderStyle) (insi
     → style_begins m style old ≡ None → styled m style inside old ≡ None
 no_look_opens m style inside old h = turn_off (style_begins m style) (in_turn inside (style_ends m style)) old h
 
-pub shown_opens : {H A : Type 0} (m : Marking H A) (w : Measure) (head : Head) (c : Content) (inside : Step H A)
+pub shown_opens : {H A : Type 0} (m : Marking H A) (w : Sizing) (head : Head) (c : Content) (inside : Step H A)
     (old led begun held new : LayoutState H A) (parts : List (Continuation H A)) (is_entered : Bool) → is_entered ≡ true
     → leading m head old ≡ Some led → begins m head.info led ≡ Some begun
     → ((x : Step H A) → holds m head.info c x begun
@@ -208,7 +208,7 @@ shown_opens m w head c inside old led begun held new parts true is h k p f =
 shown_opens m w head c inside old led begun held new parts false is h k p f = absurd (cc is)
 
 -- where what stands in a value is left out
-pub shown_alone : {H A : Type 0} (m : Marking H A) (w : Measure) (head : Head) (c : Content) (inside : Step H A)
+pub shown_alone : {H A : Type 0} (m : Marking H A) (w : Sizing) (head : Head) (c : Content) (inside : Step H A)
     (old led begun held : LayoutState H A) (parts : List (Continuation H A)) (is_entered : Bool) → is_entered ≡ false
     → leading m head old ≡ Some led → begins m head.info led ≡ Some begun
     → ((x : Step H A) → holds m head.info c x begun

@@ -8,7 +8,8 @@ use Rattle.std.specs.Prelude.{All}
 use Rattle.layout_state.proofs.StepLemmas.{turn_off, turn_on}
 use Rattle.layout_state.specs.Begins.{named}
 use Rattle.layout_state.specs.LayoutState.{LayoutState, Step, TablePlace, cells, goes_to, in_part, in_table, in_turn}
-use Rattle.render_sizes.specs.Extents.{Measure}
+use Rattle.layout_values.specs.Sizing.{Sizing}
+use Rattle.text_pieces.specs.declared.white_space.WhiteSpace.TheVariants.{Normal}
 use Rattle.render_values.specs.declared.info.Head.{Head}
 use Rattle.render_values.specs.declared.info.RenderInfo.{RenderInfo}
 use Rattle.render_values.specs.declared.info.RenderInfo.TheVariants as infos
@@ -46,29 +47,33 @@ pub pushed_both : {X : Type 0} (old one new xs ys : List X) → one ≡ old ++ x
     → new ≡ old ++ (xs ++ ys)
 pushed_both old one new xs ys h k = k ∙ (ap (λ v. v ++ ys) h ∙ append_assoc old xs ys)
 
--- for what is known of every measure
-pub whichever_measure : Measure
-whichever_measure = record {
-  min_wrap = 0;
-  prefixes = record { heading = λ level. 0; quote = 0; bullet = 0; numbers = λ first items. 0 };
+-- for what is known of every sizing
+pub whichever_sizing : Sizing
+whichever_sizing = record {
+  measure = record {
+    min_wrap = 0;
+    prefixes = record { heading = λ level. 0; quote = 0; bullet = 0; numbers = λ first items. 0 };
+  };
+  fitted = None;
+  mode = Normal;
 }
 
 -- what may be left out, where it is, and where it isn't
-pub left_out : {H A : Type 0} (m : Marking H A) (w : Measure) (xs : List (Continuation H A)) (entered : Bool)
+pub left_out : {H A : Type 0} (m : Marking H A) (w : Sizing) (xs : List (Continuation H A)) (entered : Bool)
     (inside : Step H A) (new : LayoutState H A) (whole : Option (LayoutState H A)) → entered ≡ false
     → whole ≡ option_and_then (unwound m w xs) (where_entered entered inside new)
     → whole ≡ option_and_then (unwound m w xs) (Some new)
 left_out m w xs entered inside new whole is h =
     h ∙ ap (λ b. option_and_then (unwound m w xs) (where_entered b inside new)) is
 
-pub let_in : {H A : Type 0} (m : Marking H A) (w : Measure) (xs : List (Continuation H A)) (entered : Bool)
+pub let_in : {H A : Type 0} (m : Marking H A) (w : Sizing) (xs : List (Continuation H A)) (entered : Bool)
     (inside : Step H A) (new : LayoutState H A) (whole : Option (LayoutState H A)) → entered ≡ true
     → whole ≡ option_and_then (unwound m w xs) (where_entered entered inside new)
     → whole ≡ option_and_then (unwound m w xs) (inside new)
 let_in m w xs entered inside new whole is h =
     h ∙ ap (λ b. option_and_then (unwound m w xs) (where_entered b inside new)) is
 
-pub row_left_out : {H A : Type 0} (m : Marking H A) (w : Measure) (shown : Bool) (inside : Step H A)
+pub row_left_out : {H A : Type 0} (m : Marking H A) (w : Sizing) (shown : Bool) (inside : Step H A)
     (new : LayoutState H A) (whole : Option (LayoutState H A)) → shown ≡ false → whole ≡ where_entered shown inside new
     → whole ≡ option_and_then (unwound m w []) (Some new)
 row_left_out m w shown inside new whole is h =
@@ -81,7 +86,7 @@ row_let_in shown inside new whole is h = h ∙ ap (λ b. where_entered b inside 
 
 -- ---- tables
 
-pub table_waits : {H A : Type 0} (m : Marking H A) (w : Measure) (inside : Step H A) (fenced : Bool)
+pub table_waits : {H A : Type 0} (m : Marking H A) (w : Sizing) (inside : Step H A) (fenced : Bool)
     (place there : TablePlace H A) (new : LayoutState H A) → place ≡ there
     → option_and_then (table_ended m fenced there) (inside new)
     ≡ option_and_then (unwound m w (table_ends fenced place ∷ [])) (inside new)
@@ -91,7 +96,7 @@ table_waits m w inside fenced place there new same =
 
 -- ---- rows
 
-pub row_opens : {X H A : Type 0} (f : X → Continuation H A) (m : Marking H A) (w : Measure) (style : RenderStyle)
+pub row_opens : {X H A : Type 0} (f : X → Continuation H A) (m : Marking H A) (w : Sizing) (style : RenderStyle)
     (inside : Step H A) (xs : List X) (last : X) (mid new : LayoutState H A) (whole : Option (LayoutState H A))
     → f last ≡ row_ends → whole ≡ styled m style (in_turn inside (row_ended m)) mid
     → ((x : Step H A) → styled m style x mid ≡ option_and_then (unwound m w (map f xs)) (x new))
@@ -105,7 +110,7 @@ row_opens f m w style inside xs last mid new whole is h look =
 
 -- ---- cells
 
-pub slot_ended : {H A : Type 0} (m : Marking H A) (w : Measure) (widths : Option (List ℕ)) (more : List (List Slot))
+pub slot_ended : {H A : Type 0} (m : Marking H A) (w : Sizing) (widths : Option (List ℕ)) (more : List (List Slot))
     (fragments fs : List (List ℕ)) (slots : List Slot) (made : List (Sub H A × ℕ)) (inside : Step H A)
     (l : LayoutState H A) → slots ≡ [] → fs ≡ [] → in_slot m widths more fragments slots made inside l
     ≡ option_and_then (unwound m w []) (Some (in_table (cells widths more fs slots made) l))
@@ -115,7 +120,7 @@ slot_ended m w widths more fragments fs slots made inside l none no_fs =
     ∙ (ap (λ v. Some (in_table (cells widths more v slots made) l)) (sym no_fs)
     ∙ nothing_waits m w (Some (in_table (cells widths more fs slots made) l))))
 
-pub slot_skipped : {H A : Type 0} (m : Marking H A) (w : Measure) (widths : Option (List ℕ)) (more : List (List Slot))
+pub slot_skipped : {H A : Type 0} (m : Marking H A) (w : Sizing) (widths : Option (List ℕ)) (more : List (List Slot))
     (fragments fs : List (List ℕ)) (slots left : List Slot) (s : Slot) (made : List (Sub H A × ℕ)) (inside : Step H A)
     (l : LayoutState H A) → slots ≡ s ∷ left → has_columns s ≡ false → fs ≡ []
     → in_slot m widths more fragments slots made inside l
@@ -142,7 +147,7 @@ slot_taken {H} {A} m widths more fragments names slots left s width made inside 
     ∙ (ap (λ (n : ℕ). option_and_then ended (cell_begun m n fragments l)) (sym wide)
     ∙ (ap (λ v. option_and_then ended (cell_begun m width v l)) (sym same) ∙ ap (option_and_then ended) h)))
 
-pub cell_waits : {H A : Type 0} (m : Marking H A) (w : Measure) (inside : Step H A) (outer here : Sub H A)
+pub cell_waits : {H A : Type 0} (m : Marking H A) (w : Sizing) (inside : Step H A) (outer here : Sub H A)
     (widths : Option (List ℕ)) (more : List (List Slot)) (left : List Slot) (made : List (Sub H A × ℕ)) (taken : ℕ)
     (new : LayoutState H A) → outer ≡ here
     → option_and_then (cell_ended here widths more left made taken) (inside new)
@@ -183,7 +188,7 @@ cell_after m widths more fragments slots left made all inside l mid o same trail
     ∙ (ap (λ v. in_slot m widths more fragments left v inside l) (sym whole)
     ∙ (ap (λ x. in_slot m widths more fragments left all inside x) (sym same) ∙ h))
 
-pub cell_opens : {X H A : Type 0} (f : X → Continuation H A) (m : Marking H A) (w : Measure) (g : Step H A → Step H A)
+pub cell_opens : {X H A : Type 0} (f : X → Continuation H A) (m : Marking H A) (w : Sizing) (g : Step H A → Step H A)
     (style : RenderStyle) (fragment : Option (List ℕ)) (inside : Step H A) (xs ys : List X)
     (old one two new : LayoutState H A)
     → ((x : Step H A) → g x old ≡ option_and_then (unwound m w (map f xs)) (x one))
@@ -196,14 +201,14 @@ cell_opens f m w g style fragment inside xs ys old one two new cell look h =
     ∙ (ap (λ v. option_and_then (unwound m w v) (in_turn (named m fragment) inside two)) (sym (map-append f xs ys))
     ∙ ap (option_and_then (unwound m w (map f (xs ++ ys)))) (turn_on (named m fragment) inside two new _ h refl))
 
-pub no_cell_look : {H A : Type 0} (m : Marking H A) (w : Measure) (g : Step H A → Step H A)
+pub no_cell_look : {H A : Type 0} (m : Marking H A) (w : Sizing) (g : Step H A → Step H A)
     (xs : List (Continuation H A))
     (inside : Step H A) (old one : LayoutState H A)
     → ((x : Step H A) → g x old ≡ option_and_then (unwound m w xs) (x one)) → inside one ≡ None
     → g inside old ≡ None
 no_cell_look m w g xs inside old one h never = h inside ∙ ap (option_and_then (unwound m w xs)) never
 
-pub no_cell_name : {H A : Type 0} (m : Marking H A) (w : Measure) (g : Step H A → Step H A) (style : RenderStyle)
+pub no_cell_name : {H A : Type 0} (m : Marking H A) (w : Sizing) (g : Step H A → Step H A) (style : RenderStyle)
     (fragment : Option (List ℕ)) (inside : Step H A) (xs ys : List (Continuation H A)) (old one two : LayoutState H A)
     → ((x : Step H A) → g x old ≡ option_and_then (unwound m w xs) (x one))
     → ((x : Step H A) → styled m style x one ≡ option_and_then (unwound m w ys) (x two))
@@ -215,7 +220,7 @@ no_cell_name m w g style fragment inside xs ys old one two cell look never =
 
 -- ---- places
 
-pub nothing_among_rows : {H A : Type 0} (m : Marking H A) (w : Measure) (info : RenderInfo) (head : Head)
+pub nothing_among_rows : {H A : Type 0} (m : Marking H A) (w : Sizing) (info : RenderInfo) (head : Head)
     (widths : Option (List ℕ)) (slots : List (List Slot)) (fragments : List (List ℕ)) (inside : Step H A)
     (l : LayoutState H A) → (info ≡ infos.TableGroup → ⊥) → (info ≡ infos.TableRow → ⊥)
     → among_rows m info head widths slots fragments inside l ≡ option_and_then (unwound m w []) (Some l)
@@ -247,7 +252,7 @@ nothing_among_rows m w infos.TableRow head widths slots fragments inside l a b =
 nothing_among_rows m w (infos.TableCell columns taken) head widths slots fragments inside l a b = nothing_waits m w
     (Some l)
 
-pub nothing_among_cells : {H A : Type 0} (m : Marking H A) (w : Measure) (info : RenderInfo) (head : Head)
+pub nothing_among_cells : {H A : Type 0} (m : Marking H A) (w : Sizing) (info : RenderInfo) (head : Head)
     (place : TablePlace H A) (inside : Step H A) (l : LayoutState H A)
     → ((columns taken : ℕ) → info ≡ infos.TableCell columns taken → ⊥)
     → among_cells m info head place inside l ≡ option_and_then (unwound m w []) (Some l)

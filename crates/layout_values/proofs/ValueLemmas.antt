@@ -6,7 +6,8 @@ use Rattle.std.proofs.lemmas.List.{map-append}
 use Rattle.std.proofs.lemmas.List.Elements.{All-cons, All-head, All-nil, All-tail}
 use Rattle.std.specs.Option.{option_and_then}
 use Rattle.block_trait.specs.Renderers.{Marking}
-use Rattle.render_sizes.specs.Extents.{Measure}
+use Rattle.layout_values.specs.Sizing.{Sizing}
+use Rattle.text_pieces.specs.declared.white_space.WhiteSpace.TheVariants.{Normal}
 use Rattle.render_values.specs.declared.info.Head.{Head}
 use Rattle.render_values.specs.declared.style.RenderStyle.{RenderStyle}
 use Rattle.layout_state.specs.Begins.{begins, ends, following, leading}
@@ -76,7 +77,7 @@ no_hold m head c inside old led begun h k never =
     (in_turn (holds m head.info c (in_turn (following m head) inside)) (ends m head.info)) led begun None k
     (ap (option_and_then (ends m head.info)) never))
 
-pub no_follow : {H A : Type 0} (m : Marking H A) (w : Measure) (head : Head) (c : Content) (inside : Step H A)
+pub no_follow : {H A : Type 0} (m : Marking H A) (w : Sizing) (head : Head) (c : Content) (inside : Step H A)
     (old led begun held : LayoutState H A) (parts : List (Continuation H A)) (is_entered : Bool) → is_entered ≡ true
     → leading m head old ≡ Some led → begins m head.info led ≡ Some begun
     → ((x : Step H A) → holds m head.info c x begun
@@ -88,7 +89,7 @@ no_follow m w head c inside old led begun held parts true is h k p never =
     ∙ ap (λ o. option_and_then (unwound m w parts) (option_and_then inside o)) never)
 no_follow m w head c inside old led begun held parts false is h k p never = absurd (cc is)
 
-pub value_opens : {X H A : Type 0} (f : X → Continuation H A) (m : Marking H A) (w : Measure) (around : Around)
+pub value_opens : {X H A : Type 0} (f : X → Continuation H A) (m : Marking H A) (w : Sizing) (around : Around)
     (style : RenderStyle) (within : Step H A) (xs ys zs : List X) (old one two : LayoutState H A)
     (o : Option (LayoutState H A))
     → ((x : Step H A) → placed m around x old ≡ option_and_then (unwound m w (map f xs)) (x one))
@@ -101,14 +102,14 @@ value_opens f m w around style within xs ys zs old one two o h k l =
     ∙ ap (λ v. option_and_then (unwound m w v) o)
     (ap (λ v. map f xs ++ v) (sym (map-append f ys zs)) ∙ sym (map-append f xs (ys ++ zs)))
 
-pub no_look : {H A : Type 0} (m : Marking H A) (w : Measure) (around : Around) (style : RenderStyle)
+pub no_look : {H A : Type 0} (m : Marking H A) (w : Sizing) (around : Around) (style : RenderStyle)
     (inside : Step H A) (xs : List (Continuation H A)) (old one : LayoutState H A)
     → ((x : Step H A) → placed m around x old ≡ option_and_then (unwound m w xs) (x one))
     → styled m style inside one ≡ None → placed m around (styled m style inside) old ≡ None
 no_look m w around style inside xs old one h never =
     h (styled m style inside) ∙ ap (option_and_then (unwound m w xs)) never
 
-pub no_shown : {H A : Type 0} (m : Marking H A) (w : Measure) (around : Around) (style : RenderStyle)
+pub no_shown : {H A : Type 0} (m : Marking H A) (w : Sizing) (around : Around) (style : RenderStyle)
     (inside : Step H A) (xs ys : List (Continuation H A)) (old one two : LayoutState H A)
     → ((x : Step H A) → placed m around x old ≡ option_and_then (unwound m w xs) (x one))
     → ((x : Step H A) → styled m style x one ≡ option_and_then (unwound m w ys) (x two))
@@ -116,9 +117,13 @@ pub no_shown : {H A : Type 0} (m : Marking H A) (w : Measure) (around : Around) 
 no_shown m w around style inside xs ys old one two h k never =
     no_look m w around style inside xs old one h (k inside ∙ ap (option_and_then (unwound m w ys)) never)
 
--- for what is known of every measure
-pub any_measure : Measure
-any_measure = record {
-  min_wrap = 0;
-  prefixes = record { heading = λ level. 0; quote = 0; bullet = 0; numbers = λ first items. 0 };
+-- for what is known of every sizing
+pub any_sizing : Sizing
+any_sizing = record {
+  measure = record {
+    min_wrap = 0;
+    prefixes = record { heading = λ level. 0; quote = 0; bullet = 0; numbers = λ first items. 0 };
+  };
+  fitted = None;
+  mode = Normal;
 }

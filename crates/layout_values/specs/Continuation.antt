@@ -3,7 +3,7 @@ use Rattle.std.specs.Prelude.{ℕ, ◌-◌, Bool, List, [], ◌∷◌, Option, N
 use Rattle.std.specs.List.{slice_get}
 use Rattle.std.specs.Option.{option_and_then}
 use Rattle.block_trait.specs.Renderers.{Marking, Sub}
-use Rattle.render_sizes.specs.Extents.{Measure}
+use Rattle.layout_values.specs.Sizing.{Sizing, in_mode}
 use Rattle.render_values.specs.Values.{Values}
 use Rattle.render_values.specs.declared.info.RenderInfo.{RenderInfo}
 use Rattle.render_values.specs.declared.info.RenderInfo.TheVariants.{Nothing}
@@ -15,11 +15,12 @@ use Rattle.layout_state.specs.LayoutState.{Step, TablePlace, goes_on, in_turn, p
 use Rattle.layout_tables.specs.Tables.{cell_ended, row_ended, table_ended}
 use Rattle.table_widths.specs.declared.slot.Slot.{Slot}
 use Rattle.layout_state.specs.declared.around.Around.{Around}
+use Rattle.text_pieces.specs.declared.white_space.WhiteSpace.{WhiteSpace}
 use Rattle.layout_state.specs.declared.around.Around.TheVariants.{Flow}
 
 pub data Continuation (H A : Type 0) : Type 0 where
-  -- values are to be laid out
-  rest : Values → Continuation H A
+  -- values are to be laid out, where that mode of white space is in force around them
+  rest : WhiteSpace → Values → Continuation H A
   -- a value ends
   value_ends : RenderInfo → Continuation H A
   look_ends : RenderStyle → Continuation H A
@@ -35,8 +36,8 @@ pub data Continuation (H A : Type 0) : Type 0 where
   cell_ends : Sub H A → (widths : Option (List ℕ)) → List (List Slot) → List Slot → List (Sub H A × ℕ) → ℕ
       → Continuation H A
 
-abbrev pub undone : {H A : Type 0} → Marking H A → Measure → Continuation H A → Step H A
-undone m w (rest vs) = lay m w vs
+abbrev pub undone : {H A : Type 0} → Marking H A → Sizing → Continuation H A → Step H A
+undone m w (rest mode vs) = lay m (in_mode w mode) vs
 undone m w (value_ends info) = ends m info
 undone m w (look_ends style) = style_ends m style
 undone m w (part_ends outer first following) = part_ended m outer first following
@@ -48,13 +49,9 @@ undone m w row_ends = row_ended m
 undone m w (cell_ends outer widths more slots made taken) = cell_ended outer widths more slots made taken
 
 -- all that waits, the last first
-unfoldable pub unwound : {H A : Type 0} → Marking H A → Measure → List (Continuation H A) → Step H A
+unfoldable pub unwound : {H A : Type 0} → Marking H A → Sizing → List (Continuation H A) → Step H A
 unwound m w [] l = Some l
 unwound m w (x ∷ xs) l = option_and_then (undone m w x) (unwound m w xs l)
-
--- those from a place up to another
-abbrev pub segment : {X : Type 0} → List X → (from to : ℕ) → List X
-segment xs from to = take (to - from) (drop from xs)
 
 abbrev pub info_or_nothing : Option RenderNode → RenderInfo
 info_or_nothing None = Nothing

@@ -13,12 +13,14 @@ use Rattle.layout_state.specs.declared.around.Around.{Around}
 use Rattle.layout_state.specs.declared.around.Around.TheVariants.{Flow, Items}
 use Rattle.layout_state.specs.declared.around.ItemMark.{ItemMark}
 use Rattle.layout_state.specs.declared.around.ItemMark.TheVariants.{Bullet, Number}
+use Rattle.column_fits.specs.declared.fit.ColumnFit.{ColumnFit}
 use Rattle.render_sizes.specs.Extents.{Measure, extent_of, number, table_in}
 use Rattle.render_values.specs.Values.{Values, none, value}
 use Rattle.render_values.specs.declared.info.Head.{Head}
 use Rattle.render_values.specs.declared.info.RenderInfo.{RenderInfo}
 use Rattle.render_values.specs.declared.info.RenderInfo.TheVariants as infos
 use Rattle.render_values.specs.declared.style.RenderStyle.{RenderStyle}
+use Rattle.layout_values.specs.Sizing.{Sizing, fits_in, within}
 use Rattle.layout_tables.specs.Tables.{cell_laid, row_begun, row_ended, table_laid}
 use Rattle.table_widths.specs.Slots.{Table, is_shown, no_table}
 use Rattle.table_widths.specs.declared.slot.Slot.{Slot}
@@ -43,12 +45,13 @@ placed m (Items mark columns least) inside = item_laid m mark columns least insi
 
 -- ---- values
 
--- what is to be known of what stands in a value: how many values it is, how many columns the value asks for, and the
--- table that they are where it is one
+-- what is to be known of what stands in a value: how many values it is, how many columns the value asks for, the table
+-- that they are where it is one, and what each of its columns asks for, where columns are fitted
 pub record Content : Type 0 where
   pub items : ℕ
   pub least : ℕ
   pub table : Table
+  pub fits : Option (List ColumnFit)
 
 abbrev pub table_of : Measure → RenderInfo → (inside : Values) → Table
 table_of w infos.Table inside = table_in w inside
@@ -65,7 +68,7 @@ holds m infos.Quote c inside = after_mark m quote c.least inside
 holds m infos.Details c inside = after_prefix m 2 (spaces 2) (spaces 2) c.least inside
 holds m infos.Bullets c inside = listed m Bullet c.items c.least inside
 holds m (infos.Numbers first) c inside = listed m (Number first) c.items c.least inside
-holds m infos.Table c inside = table_laid m c.table inside
+holds m infos.Table c inside = table_laid m c.table c.fits inside
 holds m _ c inside = inside
 
 abbrev pub shown : {H A : Type 0} → Marking H A → Head → Content → Step H A → Step H A
@@ -127,19 +130,24 @@ laid_at m head c (cells widths more fragments slots made) inside =
 abbrev pub laid : {H A : Type 0} → Marking H A → Head → Content → Step H A → Step H A
 laid m head c inside l = laid_at m head c l.table inside l
 
--- what is to be known of what stands in a value; `w` measures how many columns values ask for
-abbrev pub content_of : (w : Measure) → Head → (inside : Values) → Content
-content_of w head inside =
-    record { items = number inside; least = (extent_of w head inside).least; table = table_of w head.info inside }
+-- what is to be known of what stands in a value; `w` says how many columns values ask for
+abbrev pub content_of : (w : Sizing) → Head → (inside : Values) → Content
+content_of w head inside = record {
+  items = number inside;
+  least = (extent_of w.measure head inside).least;
+  table = table_of w.measure head.info inside;
+  fits = fits_in w head inside;
+}
 
 -- Values one after another, each with what stands in it.
-abbrev pub lay : {H A : Type 0} → Marking H A → (w : Measure) → Values → Step H A
+abbrev pub lay : {H A : Type 0} → Marking H A → (w : Sizing) → Values → Step H A
 lay m w none l = Some l
-lay m w (value head inside rest) l = in_turn (laid m head (content_of w head inside) (lay m w inside)) (lay m w rest) l
+lay m w (value head inside rest) l =
+    in_turn (laid m head (content_of w head inside) (lay m (within w head) inside)) (lay m w rest) l
 
 -- in renderers of a page, outside of all lists and tables
 abbrev pub on_page : {H A : Type 0} → Parts H A → LayoutState H A
 on_page p = record { parts = p; around = Flow; table = outside false }
 
-abbrev pub laid_parts : {H A : Type 0} → Marking H A → (w : Measure) → Values → Parts H A → Option (Parts H A)
+abbrev pub laid_parts : {H A : Type 0} → Marking H A → (w : Sizing) → Values → Parts H A → Option (Parts H A)
 laid_parts m w values p = option_map (λ l. l.parts) (lay m w values (on_page p))

@@ -1,3 +1,4 @@
 pub mod Lay
 pub mod Seen
 pub mod Continuation
+pub mod Sizing

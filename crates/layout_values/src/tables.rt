@@ -3,6 +3,8 @@ ghost use Rattle.std.specs.Prelude.{◌≡◌, ◌⊎◌, Err, IfErr, IfOk, IfSo
 ghost use Rattle.std.specs.Option.{is_some};
 ghost use Rattle.block_renderer.specs.Seen.{has_failed, sub_of};
 ghost use Rattle.table_widths.specs.Shares.{AreSized};
+ghost use Rattle.column_fits.specs.Across.{AreFits};
+ghost use Rattle.layout_tables.specs.Seen.{fits_seen};
 ghost use Rattle.layout_state.specs.LayoutState.{Step, in_table, in_turn};
 ghost use Rattle.layout_state.specs.Seen.{Comes, Fails, IsWorking, laying_of, made_of, place_of, slots_left};
 ghost use Rattle.layout_state.specs.Seen.{widths_seen};
@@ -22,6 +24,7 @@ use crate::looking::open_look;
 use crate::values::push_some;
 use crate::waiting::{Continuation, OpenCell, OpenTable};
 use block_trait::Renderer;
+use column_fits::ColumnFit;
 use layout_state::{LayoutState, SlotsLeft, TablePlace, TableRows};
 use layout_tables::{fence, is_fenced, push_name, rows_of, table_widths, top_border};
 use render_values::{Head, RenderInfo};
@@ -38,15 +41,17 @@ pub(crate) fn hold_table<D: TextDecorator + Drop>(
     laying: &mut LayoutState<D>,
     alloc: Global,
     table: Table,
+    fits: &Option<Vec<ColumnFit>>,
 ) -> Result<Option<Continuation<D>>, BlockError>
     requires works { IsWorking D.Annotation.seen D.view.held laying.old }
     requires sized { AreSized table.columns.items }
-    ensures opened { IfOk result (λ x. OpensWhere D.Annotation.seen D.view (λ m. table_laid m (table_seen table))
-        (is_some x) (maybe x) laying.old laying.new) }
+    requires fit { IfSome (fits_seen fits.now) (AreFits table.columns.items) }
+    ensures opened { IfOk result (λ x. OpensWhere D.Annotation.seen D.view
+        (λ m. table_laid m (table_seen table) (fits_seen fits.now)) (is_some x) (maybe x) laying.old laying.new) }
     ensures works { OnOk result (IsWorking D.Annotation.seen D.view.held laying.new) }
     ensures ready { IfOk result (λ x. IfSome x WorksOutside) }
     ensures narrow { result ≡ Err errors.TooNarrow → NeverOpens D.Annotation.seen D.view
-        (λ m. table_laid m (table_seen table)) laying.old }
+        (λ m. table_laid m (table_seen table) (fits_seen fits.now)) laying.old }
     ensures kinds { IfErr result (λ e. (e ≡ errors.TooNarrow) ⊎ (e ≡ errors.Memory)) }
 {
     if table.columns.is_empty() {
@@ -55,7 +60,7 @@ pub(crate) fn hold_table<D: TextDecorator + Drop>(
     let options = laying.text.current().options();
     let width = laying.text.current().width();
     let fenced = is_fenced(&options, &laying.table);
-    let widths = table_widths(alloc, &options, width, table.columns.as_slice())?;
+    let widths = table_widths(alloc, &options, fits, width, table.columns.as_slice())?;
     laying.start_table()?;
     fence(laying, fenced)?;
     top_border(laying, &options, &widths)?;

@@ -5,6 +5,8 @@ ghost use Rattle.render_values.specs.declared.node.RenderNode.{RenderNode};
 ghost use Rattle.layout_values.specs.Seen.{IsOpened, NeverOpens, OpensWhere, WorksOutside, content_seen, maybe};
 ghost use Rattle.layout_values.specs.Lay.{holds, laid, laid_outside, shown};
 ghost use Rattle.layout_values.specs.Continuation.{info_at};
+ghost use Rattle.column_fits.specs.Across.{AreFits};
+ghost use Rattle.layout_tables.specs.Seen.{fits_seen};
 ghost use Rattle.layout_state.specs.Seen.{IsWorking};
 ghost use Rattle.table_widths.specs.Shares.{AreSized};
 
@@ -30,6 +32,7 @@ fn hold<D: TextDecorator + Drop>(
 ) -> Result<(Option<Continuation<D>>, bool), BlockError>
     requires works { IsWorking D.Annotation.seen D.view.held laying.old }
     requires sized { AreSized content.table.columns.items }
+    requires fit { IfSome (fits_seen content.fits) (AreFits content.table.columns.items) }
     ensures opened { IfOk result (λ r. OpensWhere D.Annotation.seen D.view
         (λ m. holds m info.now (content_seen content)) r.1 (maybe r.0) laying.old laying.new) }
     ensures works { OnOk result (IsWorking D.Annotation.seen D.view.held laying.new) }
@@ -52,7 +55,7 @@ fn hold<D: TextDecorator + Drop>(
             Ok((Some(list), true))
         }
         RenderInfo::Table => {
-            let table = hold_table(laying, alloc, content.table)?;
+            let table = hold_table(laying, alloc, content.table, &content.fits)?;
             let is_shown = table.is_some();
             Ok((table, is_shown))
         }
@@ -71,6 +74,7 @@ fn open_shown<D: TextDecorator + Drop>(
 ) -> Result<bool, BlockError>
     requires works { IsWorking D.Annotation.seen D.view.held laying.old }
     requires sized { AreSized content.table.columns.items }
+    requires fit { IfSome (fits_seen content.fits) (AreFits content.table.columns.items) }
     ensures opened { (nodes : List RenderNode) → info_at nodes at ≡ head.now.info → IfOk result
         (λ entered. IsOpened D.Annotation.seen D.view 2 nodes entered (λ m. shown m head.now (content_seen content))
         waiting.old.items waiting.new.items laying.old laying.new) }
@@ -102,6 +106,7 @@ fn open_outside<D: TextDecorator + Drop>(
 ) -> Result<bool, BlockError>
     requires works { IsWorking D.Annotation.seen D.view.held laying.old }
     requires sized { AreSized content.table.columns.items }
+    requires fit { IfSome (fits_seen content.fits) (AreFits content.table.columns.items) }
     ensures opened { (nodes : List RenderNode) → info_at nodes at ≡ head.now.info → IfOk result
         (λ entered. IsOpened D.Annotation.seen D.view 4 nodes entered
         (λ m. laid_outside m head.now (content_seen content)) waiting.old.items waiting.new.items laying.old
@@ -130,6 +135,7 @@ pub fn open_value<D: TextDecorator + Drop>(
 ) -> Result<bool, BlockError>
     requires works { IsWorking D.Annotation.seen D.view.held laying.old }
     requires sized { AreSized content.table.columns.items }
+    requires fit { IfSome (fits_seen content.fits) (AreFits content.table.columns.items) }
     ensures opened { (nodes : List RenderNode) → info_at nodes at ≡ head.now.info → IfOk result
         (λ entered. IsOpened D.Annotation.seen D.view 4 nodes entered (λ m. laid m head.now (content_seen content))
         waiting.old.items waiting.new.items laying.old laying.new) }

@@ -2,13 +2,18 @@ use block_renderer::SubRenderer;
 use layout_state::{Around, SlotsLeft, TablePlace, TableRows};
 use render_values::RenderStyle;
 use text_decorators::TextDecorator;
+use text_pieces::WhiteSpace;
 
 /// What is still to be done of a page that is laid out. One of these waits for each element that is open, so what is
 /// large is in a box.
 #[derive(Drop)]
 pub enum Continuation<D: TextDecorator> {
-    /// The values of nodes are to be laid out.
-    Rest { from: usize, to: usize },
+    /// The values of nodes are to be laid out, where that mode of white space is in force around them.
+    Rest {
+        mode: WhiteSpace,
+        from: usize,
+        to: usize,
+    },
     /// The value of a node ends.
     ValueEnds(usize),
     /// What a rule of style asks for ends.

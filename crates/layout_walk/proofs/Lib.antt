@@ -1,3 +1,4 @@
 pub mod EnterLemmas
+pub mod FitsLemmas
 pub mod SegmentLemmas
 pub mod WalkLemmas

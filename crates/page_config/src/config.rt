@@ -185,6 +185,20 @@ impl<D: TextDecorator + Drop> Config<D> {
         }
     }
 
+    /// Whether the columns of tables are fitted to the words of their cells: where a table can have the columns
+    /// without which a word of its cells must be cut, none of its columns has less, and where it can have the columns
+    /// with which no line of its cells is wrapped, they have these.
+    pub fn fit_columns(self, fit: bool) -> Config<D>
+        ensures setting { page_setting D.view result ≡ rendered_with (page_setting D.view self)
+            (record (page_setting D.view self).rendering.options { fit_columns = fit }) }
+        ensures bytes { max_bytes_of result ≡ max_bytes_of self }
+    {
+        Config {
+            rendering: self.rendering.fit_columns(fit),
+            ..self
+        }
+    }
+
     /// The targets of links after the page are not cut at the width.
     pub fn no_link_wrapping(self) -> Config<D>
         ensures setting { page_setting D.view result ≡ rendered_with (page_setting D.view self)

@@ -29,12 +29,12 @@ targets_none true false true = refl
 targets_none true false false = refl
 targets_none false shared prints = refl
 
-module _ (links shared prints : Bool) (held : Unit {0}) (width : ℕ) where
+module _ (links shared prints fits : Bool) (held : Unit {0}) (width : ℕ) where
   abbrev sub : Laid Plain → Page
-  sub b = sub_at links shared prints held width b
+  sub b = sub_at links shared prints fits held width b
 
   abbrev parts : Laid Plain → Pages
-  parts b = parts_at links shared prints held width b
+  parts b = parts_at links shared prints fits held width b
 
   closed_is : (b : Laid Plain) → with_targets plain_marking seen plain_closes (noted (parts b)) (sub b) ≡ Some (sub b)
   closed_is b = ap (λ targets. with_targets plain_marking seen plain_closes targets (sub b))
@@ -66,9 +66,10 @@ are_laid k c width texts is_plain =
     let links = c.options.include_link_footnotes in
     let shared = c.options.shared_footnotes in
     let prints = c.options.printable_targets in
+    let fits = c.options.fit_columns in
     let values = paragraph_values texts in
     let same = all_shown_are k width texts in
-    let shown = page_shown links shared prints c.held width c values (all_laid width texts begun_laid)
+    let shown = page_shown links shared prints fits c.held width c values (all_laid width texts begun_laid)
     (page_is c width texts is_plain) in
     record {
       some = some_values texts;

@@ -3,7 +3,8 @@ use Rattle.std.proofs.Common.{◌≡◌, [], ◌∷◌, if◌then◌else◌, ◌
 use Rattle.std.proofs.Common.{ℕ}
 use Rattle.std.specs.Option.{option_and_then, option_map}
 use Rattle.block_layout.specs.Laid.{Laid, add_text, end_block, is_ignored, start_awaited, start_block}
-use Rattle.html_render_tree.specs.PageLines.{Setting, laid_page, prefix_columns}
+use Rattle.html_render_tree.specs.PageLines.{Setting, laid_page, prefix_columns, sizing_of}
+use Rattle.html_render_tree.specs.Sizing.{Sizing}
 use Rattle.render_sizes.specs.Extents.{Measure, measure_of}
 use Rattle.render_values.specs.Looks.{plain}
 use Rattle.render_values.specs.Values.{Values, none}
@@ -41,12 +42,13 @@ twice : {A B C : Type 0} (f : B → C) (g : A → B) (h : A → C) (x : Option A
 twice f g h None e = refl
 twice f g h (Some a) e = ap Some (e a)
 
-module _ (links shared prints : Bool) (held : Unit {0}) (width : ℕ) where
+module _ (links shared prints fits : Bool) (held : Unit {0}) (width : ℕ) where
   abbrev options : RenderOptions
   options = record default_options {
     include_link_footnotes = links;
     shared_footnotes = shared;
     printable_targets = prints;
+    fit_columns = fits;
   }
 
   -- the renderer of a page, by what it has laid out
@@ -88,7 +90,10 @@ module _ (links shared prints : Bool) (held : Unit {0}) (width : ℕ) where
   added c cs b = inline_by b (is_ignored Normal (c ∷ cs) b)
       (option_and_then (add_text (measure width) [] Normal (c ∷ cs) [] []) (start_awaited (measure width) [] b))
 
-  module _ (by : Measure) where
+  module _ (columns : Measure) (fitted : Option RenderOptions) where
+    abbrev by : Sizing
+    by = record { measure = columns; fitted = fitted; mode = Normal }
+
     abbrev walk : Values → Step (Unit {0}) (Unit {0})
     walk values = lay plain_marking by values
 
@@ -179,14 +184,17 @@ begun_laid = state [] None false
 pub page_is : (c : Setting (Unit {0})) (width : ℕ) (texts : List (List ℕ)) → IsPlain c →
     laid_page plain_marking c width (paragraph_values texts)
     ≡ option_map (parts_at c.options.include_link_footnotes c.options.shared_footnotes c.options.printable_targets
-    c.held width) (all_laid width texts begun_laid)
+    c.options.fit_columns c.held width) (all_laid width texts begun_laid)
 page_is c width texts is_plain =
     let links = c.options.include_link_footnotes in
     let shared = c.options.shared_footnotes in
     let prints = c.options.printable_targets in
-    let by : Measure = measure_of c.min_wrap (prefix_columns (plain_marking.mark_text c.held)) in
-    ap (λ (o : RenderOptions). laid_parts plain_marking by (paragraph_values texts)
+    let fits = c.options.fit_columns in
+    let columns : Measure = measure_of c.min_wrap (prefix_columns (plain_marking.mark_text c.held)) in
+    let fitted : Option RenderOptions = (sizing_of plain_marking c).fitted in
+    ap (λ (o : RenderOptions). laid_parts plain_marking (sizing_of plain_marking c) (paragraph_values texts)
     (whole_page (new_sub width o c.held []))) is_plain
-    ∙ ap (option_map (λ (l : Layings). l.parts)) (page_walked links shared prints c.held width by texts begun_laid)
-    ∙ twice (λ (l : Layings). l.parts) (laying links shared prints c.held width)
-    (parts_at links shared prints c.held width) (all_laid width texts begun_laid) (λ b. refl)
+    ∙ ap (option_map (λ (l : Layings). l.parts))
+    (page_walked links shared prints fits c.held width columns fitted texts begun_laid)
+    ∙ twice (λ (l : Layings). l.parts) (laying links shared prints fits c.held width)
+    (parts_at links shared prints fits c.held width) (all_laid width texts begun_laid) (λ b. refl)

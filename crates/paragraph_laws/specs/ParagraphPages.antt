@@ -15,12 +15,13 @@ use Rattle.paragraph_laws.specs.ParagraphTrees.{paragraph_tree}
 abbrev pub AreQuiet : List StyleRule → Type 0
 AreQuiet rules = (rules ≡ []) ⊎ (map seen_rule rules ≡ decorating_rules)
 
--- options as they are by default, but for the targets of links
+-- options as they are by default, but for the targets of links, and whether columns of tables are fitted
 abbrev pub IsPlain : Setting (Unit {0}) → Type 0
 IsPlain c = c.options ≡ record default_options {
   include_link_footnotes = c.options.include_link_footnotes;
   shared_footnotes = c.options.shared_footnotes;
   printable_targets = c.options.printable_targets;
+  fit_columns = c.options.fit_columns;
 }
 
 -- What a page of paragraphs has: values that are rendered as its paragraphs' lines and no others, and for which a width

@@ -5,6 +5,7 @@ use Rattle.std.proofs.lemmas.List.Elements.{All-append, All-cons, All-map, All-n
 use Rattle.block_trait.specs.Calls as calls
 use Rattle.block_trait.specs.Renderers.{Marking, Sub}
 use Rattle.block_trait.specs.declared.options.RenderOptions.{RenderOptions}
+use Rattle.column_fits.specs.declared.fit.ColumnFit.{ColumnFit}
 use Rattle.table_grid.specs.declared.columns.Column.{Column}
 use Rattle.table_widths.specs.Slots.{Table, has_columns}
 use Rattle.table_widths.specs.declared.slot.Slot.{Slot}
@@ -55,15 +56,15 @@ rows_printed {m = m} laws t widths inside prints x printed =
     (table_begins laws options fenced widths (rows_of widths t))
     (prints_through inside (table_ended m fenced x.table) prints (table_ends laws fenced x.table printed.1)) x printed
 
-columns_printed : {H A : Type 0} {m : Marking H A} (laws : PrintsSteps m) (t : Table) (columns : List Column)
-    (inside : Step H A) → Prints inside → Prints (columns_laid m t columns inside)
-columns_printed laws t [] inside prints = prints_none
-columns_printed laws t (c ∷ columns) inside prints = λ x printed. rows_printed laws t _ inside prints x printed
+columns_printed : {H A : Type 0} {m : Marking H A} (laws : PrintsSteps m) (t : Table) (fits : Option (List ColumnFit))
+    (columns : List Column) (inside : Step H A) → Prints inside → Prints (columns_laid m t fits columns inside)
+columns_printed laws t fits [] inside prints = prints_none
+columns_printed laws t fits (c ∷ columns) inside prints = λ x printed. rows_printed laws t _ inside prints x printed
 
-pub table_printed : {H A : Type 0} {m : Marking H A} (laws : PrintsSteps m) (t : Table) (inside : Step H A)
-    → Prints inside → Prints (table_laid m t inside)
+pub table_printed : {H A : Type 0} {m : Marking H A} (laws : PrintsSteps m) (t : Table)
+    (fits : Option (List ColumnFit)) (inside : Step H A) → Prints inside → Prints (table_laid m t fits inside)
 unfolding table_laid
-table_printed laws t inside prints = columns_printed laws t t.columns inside prints
+table_printed laws t fits inside prints = columns_printed laws t fits t.columns inside prints
 
 -- ---- its rows
 

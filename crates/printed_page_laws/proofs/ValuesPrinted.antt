@@ -9,7 +9,7 @@ use Rattle.text_block_renderer.specs.Parts.{Parts}
 use Rattle.text_decorators.specs.Marks.{header, quote}
 use Rattle.table_widths.specs.Slots.{is_shown}
 use Rattle.table_widths.specs.declared.slot.Slot.{Slot}
-use Rattle.render_sizes.specs.Extents.{Measure}
+use Rattle.layout_values.specs.Sizing.{Sizing, within}
 use Rattle.render_values.specs.Values.{Values, none, value}
 use Rattle.render_values.specs.declared.info.Head.{Head}
 use Rattle.render_values.specs.declared.info.RenderInfo.{RenderInfo}
@@ -44,7 +44,7 @@ holds_printed laws infos.Details c inside prints = λ x printed.
     prefix_printed laws 2 (spaces 2) (spaces 2) c.least inside x (spaces_printed 2) (spaces_printed 2) prints printed
 holds_printed laws infos.Bullets c inside prints = λ x printed. list_printed _ inside x prints printed
 holds_printed laws (infos.Numbers first) c inside prints = λ x printed. list_printed _ inside x prints printed
-holds_printed laws infos.Table c inside prints = table_printed laws c.table inside prints
+holds_printed laws infos.Table c inside prints = table_printed laws c.table c.fits inside prints
 holds_printed laws _ c inside prints = prints
 
 shown_printed : {H A : Type 0} {m : Marking H A} (laws : PrintsSteps m) (head : Head) (c : Content) (inside : Step H A)
@@ -116,16 +116,16 @@ laid_printed laws head c (cells widths more fragments slots made) inside x print
 
 -- ---- values
 
-pub lay_printed : {H A : Type 0} {m : Marking H A} (laws : PrintsSteps m) (w : Measure) (values : Values)
+pub lay_printed : {H A : Type 0} {m : Marking H A} (laws : PrintsSteps m) (w : Sizing) (values : Values)
     → Prints (lay m w values)
 lay_printed laws w none x printed = printed
 lay_printed {H} {A} {m} laws w (value head inside rest) x printed =
     chained (IsPrintedState {H = H} {A = A}) (IsPrintedState {H = H} {A = A}) (lay m w rest)
-    (laid m head (content_of w head inside) (lay m w inside) x) (lay_printed laws w rest)
-    (laid_printed laws head (content_of w head inside) x.table (lay m w inside) x (lay_printed laws w inside) printed.1
+    (laid m head (content_of w head inside) (lay m (within w head) inside) x) (lay_printed laws w rest)
+    (laid_printed laws head (content_of w head inside) x.table (lay m (within w head) inside) x (lay_printed laws (within w head) inside) printed.1
     printed)
 
-pub parts_printed : {H A : Type 0} {m : Marking H A} (laws : PrintsSteps m) (w : Measure) (values : Values)
+pub parts_printed : {H A : Type 0} {m : Marking H A} (laws : PrintsSteps m) (w : Sizing) (values : Values)
     (p : Parts H A) → IsPrintedParts p → IfSome (laid_parts m w values p) (IsPrintedParts {H = H} {A = A})
 parts_printed {H} {A} {m} laws w values p printed =
     mapped (IsPrintedState {H = H} {A = A}) (IsPrintedParts {H = H} {A = A}) (λ (l : LayoutState H A). l.parts)

@@ -51,6 +51,7 @@ const ALL_OFF: RenderOptions = RenderOptions {
     raw: false,
     draw_borders: false,
     fence_tables: false,
+    fit_columns: false,
     wrap_links: false,
     include_link_footnotes: false,
     shared_footnotes: false,

@@ -18,6 +18,8 @@ pub(crate) enum PageOption {
     PadBlockWidth,
     /// Tables stand between fences.
     FenceTables,
+    /// Whether the columns of tables are fitted.
+    FitColumns(bool),
     /// The targets of links are not cut at the width.
     NoLinkWrapping,
     /// Struck text is marked without U+0336.
@@ -53,6 +55,7 @@ impl PageOption {
             PageOption::MinWrapWidth(columns) => config.min_wrap_width(columns.get()),
             PageOption::PadBlockWidth => config.pad_block_width(),
             PageOption::FenceTables => config.fence_tables(),
+            PageOption::FitColumns(fit) => config.fit_columns(fit),
             PageOption::NoLinkWrapping => config.no_link_wrapping(),
             PageOption::NoUnicodeStrikeout => config.unicode_strikeout(false),
             PageOption::AllowWidthOverflow => config.allow_width_overflow(),
@@ -137,6 +140,7 @@ fn option_with(name: &str, value: &str) -> Result<PageOption> {
         ("max_wrap_width", columns) => Ok(PageOption::MaxWrapWidth(columns.parse()?)),
         ("min_wrap_width", columns) => Ok(PageOption::MinWrapWidth(columns.parse()?)),
         ("raw_mode", raw) => Ok(PageOption::RawMode(raw.parse()?)),
+        ("fit_columns", fit) => Ok(PageOption::FitColumns(fit.parse()?)),
         ("link_footnotes", include) => Ok(PageOption::LinkFootnotes(include.parse()?)),
         ("shared_footnotes", shared) => Ok(PageOption::SharedFootnotes(shared.parse()?)),
         ("printable_targets", printable) => Ok(PageOption::PrintableTargets(printable.parse()?)),

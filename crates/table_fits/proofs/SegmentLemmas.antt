@@ -11,11 +11,11 @@ use Rattle.render_values.specs.Values.{none, value}
 use Rattle.render_values.specs.declared.node.RenderNode.{RenderNode}
 use Rattle.table_fits.specs.Walk.{IsSound, extent_at, head_at, segment}
 
-drop_none : {X : Type 0} (n : ℕ) → ◌≡◌ {A = List X} (drop n []) []
+pub drop_none : {X : Type 0} (n : ℕ) → ◌≡◌ {A = List X} (drop n []) []
 drop_none zero = refl
 drop_none (suc n) = refl
 
-take_none : {X : Type 0} (n : ℕ) → ◌≡◌ {A = List X} (take n []) []
+pub take_none : {X : Type 0} (n : ℕ) → ◌≡◌ {A = List X} (take n []) []
 take_none zero = refl
 take_none (suc n) = refl
 

@@ -9,6 +9,7 @@
 //!
 //! - `table_fits`: exactly these (`table_fits` of `TableFits.antt`), by any prefixes. The error is allocation failure.
 //!   It goes once over the nodes, whatever tables stand in tables
+//! - `mode_in`: the mode of white space in a value: its own, else that around it
 //! - `tables_have_fits`: a law: each column of a table's grid asks for something: its least or more, and no more at the
 //!   least than at the most
 #![tactic(auto)]
@@ -21,4 +22,4 @@ mod values;
 
 pub use laws::tables_have_fits;
 pub use pass::table_fits;
-pub use standing::{Around, Standing};
+pub use standing::{Around, Standing, mode_in};

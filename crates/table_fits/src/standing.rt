@@ -77,8 +77,8 @@ pub(crate) fn is_own(prefix: Option<usize>, standing: Standing) -> bool
     }
 }
 
-/// The mode of white space in a value.
-pub(crate) fn mode_in(mode: WhiteSpace, head: &Head) -> WhiteSpace
+/// The mode of white space in a value: its own, else that around it.
+pub fn mode_in(mode: WhiteSpace, head: &Head) -> WhiteSpace
     ensures { result ≡ mode_in mode head.now }
 {
     head.style.white_space.unwrap_or(mode)

@@ -31,6 +31,8 @@ returns g c = λ m w values p new steady fits kept is.
             c.cells_keep_their_places.ensures.seats draws collapse tag above cells hanging;
       };
       across = λ columns width. c.widths_across_fit.ensures columns width;
+      fitted = λ columns fits width are. c.fitted_widths_fit.ensures.fit columns fits width are;
+      asked = λ n inside widths. c.tables_have_fits.ensures n inside widths;
       tables = λ n inside. c.tables_are_sound.ensures.rows n inside;
     } in
     MatchOption-at_some ⊤ (PartsStayWithin p) new is (parts_stay laws w values p fits kept)

@@ -8,7 +8,7 @@ use Rattle.layout_values.specs.Seen.{WorksOutside, maybe, waiting_of}
 use Rattle.layout_tables.specs.Tables.{cell_laid}
 use Rattle.table_widths.specs.Tables.{rows_left}
 use Rattle.layout_values.proofs.TableOpenLemmas.{all_both, cell_opens, left_out, let_in, no_cell_look, no_cell_name}
-use Rattle.layout_values.proofs.TableOpenLemmas.{pushed_both, some_all, some_few, whichever_measure}
+use Rattle.layout_values.proofs.TableOpenLemmas.{pushed_both, some_all, some_few, whichever_sizing}
 use Rattle.layout_values.proofs.cells.open_in_slot.Goals as goal
 
 pub returns-then-not-entered-clause-opened : goal.returns-then-not-entered-clause-opened
@@ -29,12 +29,12 @@ returns-in_err-look-clause-narrow g c = λ e. λ tag p inside.
     let entered : is_some c.in_ok-cell.cell ≡ true = search rules in
     let q = err_from_is_err_and c.from_residual-in_err-look.result c.from_residual-in_err-look.ensures.1 in
     let same : c.in_err-look.field-0.0 ≡ TooNarrow = cc (q.1, q.2, e) in
-    no_cell_look (marking g.D.TextDecorator.view tag) whichever_measure
+    no_cell_look (marking g.D.TextDecorator.view tag) whichever_sizing
     (cell_laid (marking g.D.TextDecorator.view tag) (widths_seen c.args.rows.widths)
     (rows_left c.args.rows.rows) c.args.rows.fragments.items (slots_left c.args.slots)
     (made_of g.D.Annotation.EqualCopy.seen g.D.TextDecorator.view.held c.args.made.items)) _ _ _ _
-    (λ x. let_in (marking g.D.TextDecorator.view tag) whichever_measure _ _ x _ _ entered
-    (c.in_ok-cell.ensures.opened tag p [] whichever_measure x))
+    (λ x. let_in (marking g.D.TextDecorator.view tag) whichever_sizing _ _ x _ _ entered
+    (c.in_ok-cell.ensures.opened tag p [] whichever_sizing x))
     (c.in_err-look.ensures.narrow (ap Err same) tag p _)
 
 pub returns-in_err-mark-clause-narrow : goal.returns-in_err-mark-clause-narrow
@@ -42,14 +42,14 @@ returns-in_err-mark-clause-narrow g c = λ e. λ tag p inside.
     let entered : is_some c.in_ok-cell.cell ≡ true = search rules in
     let q = err_from_is_err_and c.from_residual-in_err-mark.result c.from_residual-in_err-mark.ensures.1 in
     let same : c.in_err-mark.field-0.0 ≡ TooNarrow = cc (q.1, q.2, e) in
-    no_cell_name (marking g.D.TextDecorator.view tag) whichever_measure
+    no_cell_name (marking g.D.TextDecorator.view tag) whichever_sizing
     (cell_laid (marking g.D.TextDecorator.view tag) (widths_seen c.args.rows.widths)
     (rows_left c.args.rows.rows) c.args.rows.fragments.items (slots_left c.args.slots)
     (made_of g.D.Annotation.EqualCopy.seen g.D.TextDecorator.view.held c.args.made.items))
     c.args.head.now.style c.args.head.now.fragment inside _ _ _ _ _
-    (λ x. let_in (marking g.D.TextDecorator.view tag) whichever_measure _ _ x _ _ entered
-    (c.in_ok-cell.ensures.opened tag p [] whichever_measure x))
-    (c.in_ok-look.ensures.opened tag p [] whichever_measure) (c.in_err-mark.ensures.narrow (ap Err same) tag p)
+    (λ x. let_in (marking g.D.TextDecorator.view tag) whichever_sizing _ _ x _ _ entered
+    (c.in_ok-cell.ensures.opened tag p [] whichever_sizing x))
+    (c.in_ok-look.ensures.opened tag p [] whichever_sizing) (c.in_err-mark.ensures.narrow (ap Err same) tag p)
 
 pub returns-clause-opened : goal.returns-clause-opened
 returns-clause-opened g c = λ nodes.

@@ -6,12 +6,12 @@ use Rattle.layout_values.specs.Seen.{open_cell_of}
 use Rattle.layout_values.proofs.OpenLemmas.{unboxed}
 use Rattle.layout_tables.proofs.TableSlotLemmas.{made_more}
 use Rattle.layout_tables.proofs.TableStepLemmas.{cell_ends_as}
-use Rattle.layout_values.proofs.ValueLemmas.{any_measure}
+use Rattle.layout_values.proofs.ValueLemmas.{any_sizing}
 use Rattle.layout_values.proofs.tables.end_cell.Goals as goal
 
 pub returns-clause-done : goal.returns-clause-done
 returns-clause-done g c = λ tag p.
-    unboxed (marking g.D.TextDecorator.view tag) any_measure
+    unboxed (marking g.D.TextDecorator.view tag) any_sizing
     (open_cell_of g.D.Annotation.EqualCopy.seen g.D.TextDecorator.view.held) c.args.cell.value
     c.into_inner-outer.result _ _ c.into_inner-outer.ensures (cell_ends_as
     (sub_of g.D.Annotation.EqualCopy.seen g.D.TextDecorator.view.held c.into_inner-outer.result.outer)

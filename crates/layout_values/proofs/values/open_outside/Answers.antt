@@ -3,7 +3,7 @@ use Rattle.std.proofs.lemmas.Result.{err_from_is_err_and}
 use Rattle.text_pieces.specs.declared.fault.BlockError.TheVariants.{TooNarrow}
 use Rattle.layout_state.proofs.CallLemmas.{if_ok_by}
 use Rattle.layout_values.specs.Seen.{WorksOutside, maybe, waiting_of}
-use Rattle.layout_values.proofs.ValueLemmas.{all_on, any_measure, maybe_all, maybe_few, no_look, no_shown, three_on}
+use Rattle.layout_values.proofs.ValueLemmas.{all_on, any_sizing, maybe_all, maybe_few, no_look, no_shown, three_on}
 use Rattle.layout_values.proofs.ValueLemmas.{value_opens}
 use Rattle.layout_values.proofs.values.open_outside.Goals as goal
 
@@ -28,8 +28,8 @@ returns-clause-opened g c = λ nodes here. if_ok_by _ _ c.open_shown.result (λ 
 }) (c.open_shown.ensures.opened nodes here)
 
 pub returns-clause-narrow : goal.returns-clause-narrow
-returns-clause-narrow g c = λ e. λ tag p inside. no_shown _ any_measure _ c.args.head.now.style _ _ _ _ _ _
-    (c.in_ok-item.ensures.opened tag p [] any_measure) (c.in_ok-look.ensures.opened tag p [] any_measure)
+returns-clause-narrow g c = λ e. λ tag p inside. no_shown _ any_sizing _ c.args.head.now.style _ _ _ _ _ _
+    (c.in_ok-item.ensures.opened tag p [] any_sizing) (c.in_ok-look.ensures.opened tag p [] any_sizing)
     (c.open_shown.ensures.narrow e tag p inside)
 
 pub returns-in_err-item-clause-narrow : goal.returns-in_err-item-clause-narrow
@@ -42,5 +42,5 @@ pub returns-in_err-look-clause-narrow : goal.returns-in_err-look-clause-narrow
 returns-in_err-look-clause-narrow g c = λ e. λ tag p inside.
     let q = err_from_is_err_and c.from_residual-in_err-look.result c.from_residual-in_err-look.ensures.1 in
     let same : c.in_err-look.field-0.0 ≡ TooNarrow = cc (q.1, q.2, e) in
-    no_look _ any_measure _ c.args.head.now.style _ _ _ _ (c.in_ok-item.ensures.opened tag p [] any_measure)
+    no_look _ any_sizing _ c.args.head.now.style _ _ _ _ (c.in_ok-item.ensures.opened tag p [] any_sizing)
     (c.in_err-look.ensures.narrow (ap Err same) tag p _)

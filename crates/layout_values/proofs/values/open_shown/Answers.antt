@@ -9,7 +9,7 @@ use Rattle.layout_values.specs.Seen.{WorksOutside, all_waiting, content_seen, ma
 use Rattle.layout_values.specs.Continuation.{unwound, value_ends}
 use Rattle.layout_values.specs.declared.waiting.Continuation.TheVariants.{ValueEnds}
 use Rattle.layout_values.proofs.OpenLemmas.{shown_alone, shown_opens}
-use Rattle.layout_values.proofs.ValueLemmas.{any_measure, maybe_all, maybe_few, no_begin, no_follow, no_hold, no_lead}
+use Rattle.layout_values.proofs.ValueLemmas.{any_sizing, maybe_all, maybe_few, no_begin, no_follow, no_hold, no_lead}
 use Rattle.layout_values.proofs.ValueLemmas.{two_on}
 use Rattle.layout_values.proofs.values.open_shown.Goals as goal
 
@@ -48,9 +48,9 @@ pub returns-in_err-follow-clause-narrow : goal.returns-in_err-follow-clause-narr
 returns-in_err-follow-clause-narrow g c = λ e. λ tag p inside.
     let q = err_from_is_err_and c.from_residual-in_err-follow.result c.from_residual-in_err-follow.ensures.1 in
     let same : c.in_err-follow.field-0.0 ≡ TooNarrow = cc (q.1, q.2, e) in
-    no_follow _ any_measure c.args.head.now (content_seen c.args.content)
+    no_follow _ any_sizing c.args.head.now (content_seen c.args.content)
     inside _ _ _ _ _ c.in_ok-part.entered c.if-not-entered.false (c.in_ok-lead.ensures.done tag p)
-    (c.in_ok-begin.ensures.done tag p) (c.in_ok-part.ensures.opened tag p [] any_measure)
+    (c.in_ok-begin.ensures.done tag p) (c.in_ok-part.ensures.opened tag p [] any_sizing)
     (c.in_err-follow.ensures.narrow (ap Err same) tag p)
 
 pub returns-in_err-lead-clause-narrow : goal.returns-in_err-lead-clause-narrow

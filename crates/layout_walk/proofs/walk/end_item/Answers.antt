@@ -6,12 +6,12 @@ use Rattle.layout_state.specs.LayoutState.{goes_on, part_ended}
 use Rattle.layout_state.proofs.StepLemmas.{turn_off, turn_on}
 use Rattle.layout_values.specs.Seen.{open_item_of}
 use Rattle.layout_values.proofs.OpenLemmas.{part_by, unboxed}
-use Rattle.layout_values.proofs.ValueLemmas.{any_measure}
+use Rattle.layout_values.proofs.ValueLemmas.{any_sizing}
 use Rattle.layout_walk.proofs.walk.end_item.Goals as goal
 
 pub returns-clause-done : goal.returns-clause-done
 returns-clause-done g c = λ tag p.
-    unboxed (marking g.D.TextDecorator.view tag) any_measure
+    unboxed (marking g.D.TextDecorator.view tag) any_sizing
     (open_item_of g.D.Annotation.EqualCopy.seen g.D.TextDecorator.view.held) c.args.item.value
     c.into_inner-outer.result _ _ c.into_inner-outer.ensures
     (turn_on (part_ended (marking g.D.TextDecorator.view tag)
@@ -25,7 +25,7 @@ pub returns-in_err-end_part-clause-narrow : goal.returns-in_err-end_part-clause-
 returns-in_err-end_part-clause-narrow g c = λ e. λ tag p.
     let q = err_from_is_err_and c.from_residual.result c.from_residual.ensures.1 in
     let same : c.in_err-end_part.field-0.0 ≡ TooNarrow = cc (q.1, q.2, e) in
-    unboxed (marking g.D.TextDecorator.view tag) any_measure
+    unboxed (marking g.D.TextDecorator.view tag) any_sizing
     (open_item_of g.D.Annotation.EqualCopy.seen g.D.TextDecorator.view.held) c.args.item.value
     c.into_inner-outer.result _ _ c.into_inner-outer.ensures
     (turn_off (part_ended (marking g.D.TextDecorator.view tag)

@@ -4,6 +4,7 @@ use Rattle.text_pieces.specs.declared.fault.BlockError.TheVariants.{TooNarrow}
 use Rattle.block_renderer.specs.Seen.{marking}
 use Rattle.layout_state.specs.Seen.{laying_of}
 use Rattle.layout_values.specs.Lay.{lay}
+use Rattle.layout_values.specs.Sizing.{in_mode}
 use Rattle.layout_values.specs.Seen.{waiting_of}
 use Rattle.layout_values.specs.Continuation.{undone}
 use Rattle.layout_walk.proofs.SegmentLemmas.{nothing_here}
@@ -21,7 +22,7 @@ returns-in_err-end_cell-in-CellEnds-clause-narrow g c = λ e. λ tag p w.
 
 pub returns-in_ok-end_cell-in-CellEnds-clause-goes : goal.returns-in_ok-end_cell-in-CellEnds-clause-goes
 returns-in_ok-end_cell-in-CellEnds-clause-goes g c = λ tag p w.
-    ap (λ v. lay (marking g.D.TextDecorator.view tag) w v (laying_of g.D.Annotation.EqualCopy.seen
+    ap (λ v. lay (marking g.D.TextDecorator.view tag) (in_mode w c.args.place.mode) v (laying_of g.D.Annotation.EqualCopy.seen
     g.D.TextDecorator.view.held c.end_cell.new.laying))
     (nothing_here c.args.nodes.now c.args.place.at c.args.place.end c.requires.past)
     ∙ (sym (c.in_ok-end_cell-in-CellEnds.ensures.done tag p)
