@@ -4,11 +4,11 @@
 //!
 //! `page_lines` (`specs/PageLines.antt`) is what a page comes to at a width, lines or none: the values are laid out in
 //! a new renderer of so many columns by what a decorator made for the page holds, with the columns of its own prefixes
-//! as measure; what it makes of the targets of links (each once, where links to equal targets share a footnote, and
-//! printable, where that is asked for), or of none where they are not wanted, stands after them as a block of its own,
-//! where that is not empty; and the lines are those of that renderer. There are none where the layout has no result, or
-//! what stands after it, or the last lines. `page_text` is the text of these lines: the characters of each, and a line
-//! end.
+//! as measure, and with columns of tables fitted to their cells, where that is asked for; what it makes of the targets
+//! of links (each once, where links to equal targets share a footnote, and printable, where that is asked for), or of
+//! none where they are not wanted, stands after them as a block of its own, where that is not empty; and the lines are
+//! those of that renderer. There are none where the layout has no result, or what stands after it, or the last lines.
+//! `page_text` is the text of these lines: the characters of each, and a line end.
 //!
 //! - `RenderConfig::with_decorator`, and each option: `pad_block_width`, `max_wrap_width`, `min_wrap_width`,
 //!   `allow_width_overflow`, `raw_mode`, `no_table_borders`, `fence_tables`, `fit_columns`, `no_link_wrapping`,
@@ -37,14 +37,15 @@
 //!
 //! Tested (`test_pages`): four pages as text, a refused one among them. The cases `page` of stored_rows are 500 pages
 //! without tables, 400 with tables, 600 with options and rules of style, 200 with links, 142 of them with shared
-//! footnotes, and 400 with what complete pages, `skip_hidden` and `printable_targets` read, of a model of the layout
-//! that was written independently: plain with marks and targets, plain alone, rich, and by the trivial decorator, at
-//! many widths, with each option, and with rules that set colours, backgrounds, white space, content and what is not
-//! shown; 55 of that model, each of which has other lines under a certain misreading of the rules (the mode of white
-//! space or the style of what stands around, numbers of links, borders that become text, and the like); and 91 by hand,
-//! among them refused ones and tables with row spans and column spans of any number. Each page comes as a whole and a
-//! byte at a time, and its lines, with their tags and markers, are the model's or those written by hand. What is not
-//! pinned: that memory is found; what a decorator of another program puts after the page is what its own contract says.
+//! footnotes, 400 with what complete pages, `skip_hidden` and `printable_targets` read, and 400 tables whose columns
+//! are fitted, of a model of the layout that was written independently: plain with marks and targets, plain alone,
+//! rich, and by the trivial decorator, at many widths, with each option, and with rules that set colours, backgrounds,
+//! white space, content and what is not shown; 55 of that model, each of which has other lines under a certain
+//! misreading of the rules (the mode of white space or the style of what stands around, numbers of links, borders that
+//! become text, and the like); and 100 by hand, among them refused ones, tables with row spans and column spans of any
+//! number, and fitted ones. Each page comes as a whole and a byte at a time, and its lines, with their tags and
+//! markers, are the model's or those written by hand. What is not pinned: that memory is found; what a decorator of
+//! another program puts after the page is what its own contract says.
 #![tactic(auto)]
 
 mod closing;

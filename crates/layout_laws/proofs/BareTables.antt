@@ -365,7 +365,8 @@ lay_alike {m = m} laws w (value head inside rest) =
     let here = laid m head (content_of w head inside) (lay m (within w head) inside) in
     turn here here (lay m w rest) (lay m w rest)
     (record {
-      at = λ l. (laid_alike laws head (content_of w head inside) l.table _ _ (lay_alike laws (within w head) inside)).at l;
+      at = λ l. (laid_alike laws head (content_of w head inside) l.table _ _
+          (lay_alike laws (within w head) inside)).at l;
     })
     (lay_alike laws w rest)
 

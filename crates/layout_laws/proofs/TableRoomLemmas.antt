@@ -311,7 +311,8 @@ pub lay_goes : {H A : Type 0} {m : Marking H A} (laws : RoomLaws m) (w : Sizing)
 lay_goes laws w none x room = room
 lay_goes {m = m} laws w (value head inside rest) x room = given_chained Roomy Roomy (lay m w rest)
     (laid m head (content_of w head inside) (lay m (within w head) inside) x) (lay_goes laws w rest)
-    (laid_goes laws head (content_of w head inside) x.table (lay m (within w head) inside) x (lay_goes laws (within w head) inside) room.1 room)
+    (laid_goes laws head (content_of w head inside) x.table (lay m (within w head) inside) x
+    (lay_goes laws (within w head) inside) room.1 room)
 
 pub parts_laid : {H A : Type 0} {m : Marking H A} (laws : RoomLaws m) (w : Sizing) (values : Values) (p : Parts H A)
     → HaveRoom p → IsSomeAnd (option_map (λ l. l.parts) (lay m w values (on_page p))) HaveRoom

@@ -87,7 +87,8 @@ holds_keeps {m = m} laws infos.Division c inside fits table keeps among = keeps_
 holds_keeps {m = m} laws infos.Preformatted c inside fits table keeps among = keeps_flow m c.items inside keeps
 holds_keeps {m = m} laws infos.Descriptions c inside fits table keeps among = keeps_flow m c.items inside keeps
 holds_keeps {m = m} laws infos.Term c inside fits table keeps among = keeps_flow m c.items inside keeps
-holds_keeps laws infos.Table c inside fits table keeps among = table_keeps laws c.table c.fits inside table.table table.fits among
+holds_keeps laws infos.Table c inside fits table keeps among = table_keeps laws c.table c.fits inside table.table
+    table.fits among
 holds_keeps {m = m} laws infos.TableGroup c inside fits table keeps among = keeps_flow m c.items inside keeps
 holds_keeps {m = m} laws infos.TableRow c inside fits table keeps among = keeps_flow m c.items inside keeps
 holds_keeps {m = m} laws (infos.TableCell columns taken) c inside fits table keeps among =
@@ -306,9 +307,11 @@ lay_keeps {H} {A} {m} laws w (value head inside rest) fits =
           }) one a marked.0)
           (other.flow (next_around a) marked.1);
       among = λ widths. steps_through (InRows widths) (InRows widths) (InRows widths) here (lay m w rest)
-          (laid_among laws head (content_of w head inside) (lay m (within w head) inside) one widths) (other.among widths);
+          (laid_among laws head (content_of w head inside) (lay m (within w head) inside) one widths)
+          (other.among widths);
       in_row = λ widths. steps_through (InCells widths) (InCells widths) (InCells widths) here (lay m w rest)
-          (laid_in_row laws head (content_of w head inside) (lay m (within w head) inside) one widths) (other.in_row widths);
+          (laid_in_row laws head (content_of w head inside) (lay m (within w head) inside) one widths)
+          (other.in_row widths);
     }
 
 pub parts_stay : {H A : Type 0} {m : Marking H A} (laws : WidthLaws m) (w : Sizing) (values : Values)

@@ -1,5 +1,6 @@
 -- What a value that begins leaves to be done.
-use Rattle.std.proofs.Common.{◌≡◌, if◌then◌else◌, ◌+◌, ◌-◌, ◌*◌, ◌≤◌, [], ◌∷◌, ◌++◌, ◌∙◌, Bool, List, ap, append_assoc}
+use Rattle.std.proofs.Common.{◌≡◌, if◌then◌else◌, ◌+◌, ◌-◌, ◌*◌, ◌≤◌, [], ◌∷◌, ◌++◌, ◌∙◌, Bool, List, Option, ap}
+use Rattle.std.proofs.Common.{append_assoc}
 use Rattle.std.proofs.Common.{arith, false, length, map, nat_lt, refl, subst, sym, true, ℕ}
 use Rattle.std.specs.Prelude.{All}
 use Rattle.std.proofs.lemmas.Bool.Decides.{nat_tests}
@@ -21,7 +22,6 @@ use Rattle.layout_values.specs.Seen.{AreAlike, IsReady, IsSound, WorksOutside, l
 use Rattle.layout_values.specs.Seen.{weight, where_entered}
 use Rattle.layout_values.specs.Continuation.{Continuation, unwound}
 use Rattle.table_fits.specs.Walk.{segment}
-use Rattle.table_fits.specs.Flowing.{mode_in}
 use Rattle.layout_walk.proofs.FitsLemmas.{are_given}
 use Rattle.layout_values.specs.declared.waiting.Continuation.{Continuation as CodeWaiting}
 use Rattle.layout_values.specs.declared.waiting.Continuation.TheVariants.{CellEnds, ItemEnds, ListEnds, LookEnds}
@@ -78,10 +78,12 @@ goes_in m w nodes true from trailing at l is = ap (λ n. lay m w (values_of (seg
 goes_in m w nodes false from trailing at l is =
     ap (λ v. lay m w v l) (sym (nothing_here nodes at trailing (omega (arith, is))))
 
-pub sound_in : (nodes : List RenderNode) (sizes : List Extent) (fs : Option (List (List ColumnFit))) (w : Sizing) (is_entered : Bool) (from trailing at : ℕ)
+pub sound_in : (nodes : List RenderNode) (sizes : List Extent) (fs : Option (List (List ColumnFit))) (w : Sizing)
+    (is_entered : Bool) (from trailing at : ℕ)
     → at ≡ (if is_entered then from else trailing) → IsSound nodes sizes fs w from trailing
     → IsSound nodes sizes fs w at trailing
-sound_in nodes sizes fs w true from trailing at is sound = subst (λ n. IsSound nodes sizes fs w n trailing) (sym is) sound
+sound_in nodes sizes fs w true from trailing at is sound = subst (λ n. IsSound nodes sizes fs w n trailing)
+    (sym is) sound
 sound_in nodes sizes fs w false from trailing at is sound =
     none_sound nodes sizes fs w at trailing (omega (arith, is)) sound.within
     (are_given fs w from trailing (values_of (segment nodes from trailing)) sound.fitted)
@@ -152,7 +154,8 @@ left_load old kept x is = ap load is ∙ (load_on kept (x ∷ []) ∙ omega arit
 
 -- ---- what waits may be done
 
-works_ready : {D T : Type 0} (nodes : List RenderNode) (sizes : List Extent) (fs : Option (List (List ColumnFit))) (w : Sizing) (x : CodeWaiting D T)
+works_ready : {D T : Type 0} (nodes : List RenderNode) (sizes : List Extent) (fs : Option (List (List ColumnFit)))
+    (w : Sizing) (x : CodeWaiting D T)
     → WorksOutside x → IsReady nodes sizes fs w x
 works_ready nodes sizes fs w (Rest mode from to) h = absurd h
 works_ready nodes sizes fs w (ValueEnds at) h = tt
@@ -164,7 +167,8 @@ works_ready nodes sizes fs w (TableEnds table) h = tt
 works_ready nodes sizes fs w RowEnds h = tt
 works_ready nodes sizes fs w (CellEnds cell) h = h
 
-all_ready : {D T : Type 0} (nodes : List RenderNode) (sizes : List Extent) (fs : Option (List (List ColumnFit))) (w : Sizing)
+all_ready : {D T : Type 0} (nodes : List RenderNode) (sizes : List Extent) (fs : Option (List (List ColumnFit)))
+    (w : Sizing)
     (xs : List (CodeWaiting D T)) → All WorksOutside xs → All (IsReady nodes sizes fs w) xs
 all_ready nodes sizes fs w [] h = All-nil (IsReady nodes sizes fs w)
 all_ready nodes sizes fs w (x ∷ xs) h = All-cons (IsReady nodes sizes fs w) x xs
@@ -178,7 +182,8 @@ rest_ready nodes sizes fs w true mode from to sound =
     All-cons (IsReady nodes sizes fs w) (Rest mode from to) [] sound (All-nil (IsReady nodes sizes fs w))
 rest_ready nodes sizes fs w false mode from to sound = All-nil (IsReady nodes sizes fs w)
 
-pub entered_ready : {D T : Type 0} (nodes : List RenderNode) (sizes : List Extent) (fs : Option (List (List ColumnFit))) (w : Sizing)
+pub entered_ready : {D T : Type 0} (nodes : List RenderNode) (sizes : List Extent)
+    (fs : Option (List (List ColumnFit))) (w : Sizing)
     (old one items new : List (CodeWaiting D T)) (mode : WhiteSpace) (from to : ℕ) → one ≡ old ++ rest_of mode from to
     → new ≡ one ++ items → All WorksOutside items → IsSound nodes sizes fs (in_mode w mode) from to
     → All (IsReady nodes sizes fs w) old → All (IsReady nodes sizes fs w) new

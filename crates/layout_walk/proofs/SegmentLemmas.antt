@@ -1,5 +1,6 @@
 -- Nodes from a place up to another.
-use Rattle.std.proofs.Common.{◌≡◌, ◌+◌, ◌-◌, ◌<◌, ◌≤◌, [], ◌∷◌, ◌∙◌, List, ap, arith, drop, get_or, inl, length, refl}
+use Rattle.std.proofs.Common.{◌≡◌, ◌+◌, ◌-◌, ◌<◌, ◌≤◌, [], ◌∷◌, ◌∙◌, IfSome, List, Option, ap, arith, drop, get_or}
+use Rattle.std.proofs.Common.{inl, length, refl}
 use Rattle.std.proofs.Common.{subst, suc, sym, take, zero, ℕ}
 use Rattle.std.proofs.lemmas.List.{length-drop, length-take}
 use Rattle.render_sizes.specs.Asked.{AreMeasured, asked_of}
@@ -85,7 +86,8 @@ pub sizes_there : (nodes : List RenderNode) (sizes : List Extent) (fs : Option (
     (w : Sizing) (at end : ℕ) (d : RenderNode)
     → at < end → IsSound nodes sizes fs w at end → at < length sizes
 sizes_there nodes sizes fs w at end d before sound =
-    some_there sizes at end (length (segment nodes (at + 1) end)) (split nodes sizes fs w at end d before sound).finds.long
+    some_there sizes at end (length (segment nodes (at + 1) end)) (split nodes sizes fs w at end d before
+    sound).finds.long
 
 pub values_here : (nodes : List RenderNode) (sizes : List Extent) (fs : Option (List (List ColumnFit)))
     (w : Sizing) (at end : ℕ) (d : RenderNode)
@@ -113,7 +115,8 @@ pub size_here : (nodes : List RenderNode) (sizes : List Extent) (fs : Option (Li
 size_here nodes sizes fs w at end d before sound asks e =
     let x = get_or nodes at d in
     let s = split nodes sizes fs w at end d before sound in
-    sym (ap (λ l. get_or l 0 e) (segment_first sizes at end e before (sizes_there nodes sizes fs w at end d before sound)))
+    sym (ap (λ l. get_or l 0 e) (segment_first sizes at end e before (sizes_there nodes sizes fs w at end d before
+    sound)))
     ∙ (s.finds.own asks e ∙ ap (λ l. extent_of w.measure x.head (values_of l))
     (segment_front nodes (at + 1) x.below end (fits nodes sizes fs w at end d before sound)))
 
@@ -244,7 +247,8 @@ first_node nodes sizes fs w at end n is before sound = subst (FirstNode nodes si
   fits = fits nodes sizes fs w at end n before sound;
   there = sizes_there nodes sizes fs w at end n before sound;
   info = at_of nodes at n (omega (arith, sound.within));
-  inner_there = inner_there nodes sizes fs (within w (get_or nodes at n).head) (at + 1) (at + 1 + (get_or nodes at n).below)
+  inner_there = inner_there nodes sizes fs (within w (get_or nodes at n).head) (at + 1)
+      (at + 1 + (get_or nodes at n).below)
       (omega (arith, sizes_there nodes sizes fs w at end n before sound)) (inner_sound nodes sizes fs w at end n before
       sound);
   inner = inner_sound nodes sizes fs w at end n before sound;
@@ -289,4 +293,5 @@ all_sound nodes sizes fs w flat sized fitted = record {
 }
   where
     long : length sizes ≡ length nodes
-    long = length_measured w.measure (values_of nodes) sizes sized ∙ (sym (length_flat (values_of nodes)) ∙ ap length flat)
+    long = length_measured w.measure (values_of nodes) sizes sized ∙ (sym (length_flat (values_of nodes))
+        ∙ ap length flat)

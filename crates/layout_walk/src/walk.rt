@@ -222,8 +222,8 @@ fn leave<D: TextDecorator + Drop>(
     requires past { place.end ≤ place.at }
     ensures goes { IfOk result (λ p. (tag : _) → IsTagging D.Annotation.seen D.view tag → (w : Sizing)
         → lay (marking D.view tag) (in_mode w p.mode) (values_of (segment nodes.now p.at p.end)) (laying_of
-        D.Annotation.seen D.view.held laying.new) ≡ undone (marking D.view tag) w (waiting_of D.Annotation.seen D.view.held nodes.now
-        next) (laying_of D.Annotation.seen D.view.held laying.old)) }
+        D.Annotation.seen D.view.held laying.new) ≡ undone (marking D.view tag) w (waiting_of D.Annotation.seen
+        D.view.held nodes.now next) (laying_of D.Annotation.seen D.view.held laying.old)) }
     ensures works { OnOk result (IsWorking D.Annotation.seen D.view.held laying.new) }
     ensures sound { (sizes : List SeenExtent) (fits : Option (List (List SeenFit))) (w : Sizing)
         → IsReady nodes.now sizes fits w next

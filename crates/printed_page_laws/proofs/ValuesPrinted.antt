@@ -122,7 +122,8 @@ lay_printed laws w none x printed = printed
 lay_printed {H} {A} {m} laws w (value head inside rest) x printed =
     chained (IsPrintedState {H = H} {A = A}) (IsPrintedState {H = H} {A = A}) (lay m w rest)
     (laid m head (content_of w head inside) (lay m (within w head) inside) x) (lay_printed laws w rest)
-    (laid_printed laws head (content_of w head inside) x.table (lay m (within w head) inside) x (lay_printed laws (within w head) inside) printed.1
+    (laid_printed laws head (content_of w head inside) x.table (lay m (within w head) inside) x
+    (lay_printed laws (within w head) inside) printed.1
     printed)
 
 pub parts_printed : {H A : Type 0} {m : Marking H A} (laws : PrintsSteps m) (w : Sizing) (values : Values)

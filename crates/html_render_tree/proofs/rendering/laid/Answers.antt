@@ -56,7 +56,8 @@ returns-in-Ok-clause-laid g c = λ tag p.
     (whole_page (begun_as c.args.keeps (new_sub c.args.width c.args.options (g.D.TextDecorator.view.held
     c.args.decorator) [])))) (sym
     c.requires.1.1)
-    ∙ (ap (laid_parts (marking g.D.TextDecorator.view tag) (in_mode g.w Normal) c.args.tree.now) (sym (c.new-text.ensures.parts ∙ ap
+    ∙ (ap (laid_parts (marking g.D.TextDecorator.view tag) (in_mode g.w Normal) c.args.tree.now)
+    (sym (c.new-text.ensures.parts ∙ ap
     whole_page
     (c.begun-sub.ensures.sub
     ∙ ap (λ d. begun_as c.args.keeps (new_sub c.args.width c.args.options (g.D.TextDecorator.view.held d) []))
@@ -70,7 +71,8 @@ returns-clause-narrow g c = λ e. λ tag p.
     (whole_page (begun_as c.args.keeps (new_sub c.args.width c.args.options (g.D.TextDecorator.view.held
     c.args.decorator) [])))) (sym
     c.requires.1.1)
-    ∙ (ap (laid_parts (marking g.D.TextDecorator.view tag) (in_mode g.w Normal) c.args.tree.now) (sym (c.new-text.ensures.parts ∙ ap
+    ∙ (ap (laid_parts (marking g.D.TextDecorator.view tag) (in_mode g.w Normal) c.args.tree.now)
+    (sym (c.new-text.ensures.parts ∙ ap
     whole_page
     (c.begun-sub.ensures.sub
     ∙ ap (λ d. begun_as c.args.keeps (new_sub c.args.width c.args.options (g.D.TextDecorator.view.held d) []))

@@ -35,7 +35,8 @@ nodes_between-inside-requires-clause-within g c = omega (
 )
 
 pub extents_between-inner-requires-clause-within : goal.extents_between-inner-requires-clause-within
-extents_between-inner-requires-clause-within g c = (first_node c.args.nodes.now c.args.sizes.now (all_fits_seen c.args.fits.now)
+extents_between-inner-requires-clause-within g c = (first_node c.args.nodes.now c.args.sizes.now
+    (all_fits_seen c.args.fits.now)
     (in_mode g.w c.args.place.mode) c.args.place.at
     c.args.place.end c.index-nodes-place.result
     c.index-nodes-place.is c.requires.1.1.1.0 c.requires.1.1.1.1).inner_there
@@ -114,7 +115,8 @@ returns-clause-goes g c = λ tag p.
     c.in_ok-content.ensures.alike c.nodes_between-inside.ensures)
     (o.opens tag p g.w)
     (goes_in (marking g.D.TextDecorator.view tag)
-    (in_mode g.w (mode_in c.args.place.mode c.index-nodes-place.result.head)) c.args.nodes.now c.in_ok-entered.entered _ _ _ (laying_of
+    (in_mode g.w (mode_in c.args.place.mode c.index-nodes-place.result.head)) c.args.nodes.now c.in_ok-entered.entered
+    _ _ _ (laying_of
     g.D.Annotation.EqualCopy.seen
     g.D.TextDecorator.view.held c.open_value.new.laying)
     c.entrance.ensures))
@@ -126,7 +128,8 @@ returns-clause-ready g c = λ ready.
     c.index-nodes-place.result
     c.index-nodes-place.is c.requires.1.1.1.0 c.requires.1.1.1.1) in
     let o = c.in_ok-entered.ensures.opened c.args.nodes.now n.info in
-    entered_ready c.args.nodes.now c.args.sizes.now (all_fits_seen c.args.fits.now) g.w c.args.waiting.now.items c.push_nodes.new.waiting.items o.items
+    entered_ready c.args.nodes.now c.args.sizes.now (all_fits_seen c.args.fits.now) g.w c.args.waiting.now.items
+    c.push_nodes.new.waiting.items o.items
     c.open_value.new.waiting.items c.args.place.mode _ _ c.in_ok-push_nodes.ensures o.pushed o.works n.rest ready
 
 pub returns-clause-sound : goal.returns-clause-sound

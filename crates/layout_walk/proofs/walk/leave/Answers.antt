@@ -22,7 +22,8 @@ returns-in_err-end_cell-in-CellEnds-clause-narrow g c = λ e. λ tag p w.
 
 pub returns-in_ok-end_cell-in-CellEnds-clause-goes : goal.returns-in_ok-end_cell-in-CellEnds-clause-goes
 returns-in_ok-end_cell-in-CellEnds-clause-goes g c = λ tag p w.
-    ap (λ v. lay (marking g.D.TextDecorator.view tag) (in_mode w c.args.place.mode) v (laying_of g.D.Annotation.EqualCopy.seen
+    ap (λ v. lay (marking g.D.TextDecorator.view tag) (in_mode w c.args.place.mode) v
+    (laying_of g.D.Annotation.EqualCopy.seen
     g.D.TextDecorator.view.held c.end_cell.new.laying))
     (nothing_here c.args.nodes.now c.args.place.at c.args.place.end c.requires.past)
     ∙ (sym (c.in_ok-end_cell-in-CellEnds.ensures.done tag p)

@@ -87,7 +87,8 @@ nodes-preserved g c = record {
   ready = (front_ready (IsReady {D = g.row.D.Denot} {T = g.row.D-Annotation.Denot} c.args.nodes.now c.args.sizes.now
       (all_fits_seen c.args.fits.now) g.w)
       c.nodes.waiting.items c.pop.new.self.items c.in-Some.next c.in-Some.ensures.items c.nodes.invariant.ready).0;
-  sound = c.in_ok-place-in-Some.ensures.sound c.args.sizes.now (all_fits_seen c.args.fits.now) g.w (front_ready (IsReady {D = g.row.D.Denot} {T =
+  sound = c.in_ok-place-in-Some.ensures.sound c.args.sizes.now (all_fits_seen c.args.fits.now) g.w
+      (front_ready (IsReady {D = g.row.D.Denot} {T =
       g.row.D-Annotation.Denot} c.args.nodes.now c.args.sizes.now
       (all_fits_seen c.args.fits.now) g.w)
       c.nodes.waiting.items c.pop.new.self.items c.in-Some.next c.in-Some.ensures.items c.nodes.invariant.ready).1
@@ -114,7 +115,8 @@ returns-in-None-clause-done g c = λ tag p.
     let gone = nothing_popped c.nodes.waiting.items c.pop.new.self.items (vec_len c.nodes.waiting)
     c.in-None.ensures.cases.0 c.in-None.ensures.rest c.in-None.ensures.items in
     sym (c.nodes.invariant.goes tag p)
-    ∙ ends_here (marking g.D.TextDecorator.view tag) g.w (in_mode g.w c.nodes.place.mode) (all_waiting g.D.Annotation.EqualCopy.seen
+    ∙ ends_here (marking g.D.TextDecorator.view tag) g.w (in_mode g.w c.nodes.place.mode)
+    (all_waiting g.D.Annotation.EqualCopy.seen
     g.D.TextDecorator.view.held c.args.nodes.now c.nodes.waiting.items) _ (laying_of g.D.Annotation.EqualCopy.seen
     g.D.TextDecorator.view.held c.nodes.laying)
     (ap (map (waiting_of g.D.Annotation.EqualCopy.seen g.D.TextDecorator.view.held c.args.nodes.now)) gone)
