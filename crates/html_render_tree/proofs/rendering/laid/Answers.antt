@@ -11,8 +11,8 @@ use Rattle.text_block_renderer.specs.Parts.{depth_of, whole_page}
 use Rattle.html_render_tree.specs.PageLines.{begun_as, prefix_columns}
 use Rattle.html_render_tree.proofs.rendering.laid.Goals as goal
 
-pub fits_of-fits-requires : goal.fits_of-fits-requires
-fits_of-fits-requires g c =
+pub fits_of-requires : goal.fits_of-requires
+fits_of-requires g c =
     let same : measure_of c.args.min_wrap_width (prefix_columns (g.D.TextDecorator.view.text
     (g.D.TextDecorator.view.held c.new-prefixes.result.decorator))) ≡ g.w.measure =
     ap (λ d. measure_of c.args.min_wrap_width (prefix_columns (g.D.TextDecorator.view.text
