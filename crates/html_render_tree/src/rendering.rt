@@ -3,7 +3,7 @@ ghost use Rattle.std.specs.Prelude.{◌≡◌, ◌≢◌, [], Err, IfOk, None, S
 ghost use Rattle.block_renderer.specs.Seen.{IsTagging, has_failed, marking, sub_of};
 ghost use Rattle.html_render_tree.specs.PageLines.{begun_as, laid_as, prefix_columns, sizing_by};
 ghost use Rattle.layout_values.specs.Sizing.{Sizing, all_fits};
-ghost use Rattle.layout_walk.specs.Seen.{all_fits_seen};
+ghost use Rattle.layout_tables.specs.Seen.{all_fits_seen};
 ghost use Rattle.render_sizes.specs.Asked.{AreMeasured};
 ghost use Rattle.render_conversion.specs.declared.error.RenderError.TheVariants as errors;
 ghost use Rattle.render_sizes.specs.Extents.{Measure, extents, measure_of};

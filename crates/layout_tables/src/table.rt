@@ -1,9 +1,8 @@
 //! A table before its first row and after its last.
-ghost use Rattle.std.specs.Prelude.{◌≡◌, ◌⊎◌, Err, IfErr, IfOk, IfSome, OnOk};
-ghost use Rattle.column_fits.specs.Across.{AreFits};
+ghost use Rattle.std.specs.Prelude.{◌≡◌, ◌⊎◌, Err, IfErr, IfOk, OnOk};
 ghost use Rattle.table_widths.specs.Shares.{AreSized};
 ghost use Rattle.layout_state.specs.Seen.{Comes, Fails, IsWorking, place_of, widths_seen};
-ghost use Rattle.layout_tables.specs.Seen.{fits_seen};
+ghost use Rattle.layout_tables.specs.Seen.{AreGivenAt, FitColumnsAt, all_fits_seen, fits_at};
 ghost use Rattle.layout_tables.specs.Tables.{fence, is_fenced, rows_of, table_widths, top_border, widths_by};
 ghost use Rattle.table_widths.specs.Tables.{rows_left, table_seen};
 ghost use Rattle.text_pieces.specs.declared.fault.BlockError.TheVariants as errors;
@@ -21,38 +20,43 @@ use text_pieces::BlockError;
 // by what each column asks for, where that is known
 fn widths_by(
     alloc: Global,
-    fits: &Option<Vec<ColumnFit>>,
+    fits: &Option<Vec<Vec<ColumnFit>>>,
+    at: usize,
     width: usize,
     columns: &[Column],
 ) -> Result<Option<Vec<usize>>, AllocError>
     requires sized { AreSized columns.now }
-    requires fit { IfSome (fits_seen fits.now) (AreFits columns.now) }
-    ensures { IfOk result (λ r. widths_seen r ≡ widths_by (fits_seen fits.now) width columns.now) }
+    requires given { AreGivenAt (all_fits_seen fits.now) at }
+    requires fit { FitColumnsAt (all_fits_seen fits.now) at columns.now }
+    ensures { IfOk result (λ r. widths_seen r ≡ widths_by (fits_at (all_fits_seen fits.now) at) width columns.now) }
 {
     match fits {
         None => widths_across(alloc, columns, width),
-        Some(fits) => fitted_across(alloc, columns, fits.as_slice(), width),
+        Some(fits) => fitted_across(alloc, columns, fits[at].as_slice(), width),
     }
 }
 
-/// The widths of a table's columns in `width` columns of text, where its rows lie across, fitted to its cells where
-/// `fits` says what each column asks for; none where raw tables are asked for, or the columns' leasts do not fit. The
-/// error is allocation failure.
+/// The widths of a table's columns in `width` columns of text, where its rows lie across; none where raw tables are
+/// asked for, or the columns' leasts do not fit. Where `fits` says what the columns of each value ask for, they are
+/// fitted by what those of the value at `at` ask for, the table. The error is allocation failure.
 pub fn table_widths(
     alloc: Global,
     options: &RenderOptions,
-    fits: &Option<Vec<ColumnFit>>,
+    fits: &Option<Vec<Vec<ColumnFit>>>,
+    at: usize,
     width: usize,
     columns: &[Column],
 ) -> Result<Option<Vec<usize>>, AllocError>
     requires sized { AreSized columns.now }
-    requires fit { IfSome (fits_seen fits.now) (AreFits columns.now) }
-    ensures { IfOk result (λ r. widths_seen r ≡ table_widths options.now (fits_seen fits.now) width columns.now) }
+    requires given { AreGivenAt (all_fits_seen fits.now) at }
+    requires fit { FitColumnsAt (all_fits_seen fits.now) at columns.now }
+    ensures { IfOk result (λ r. widths_seen r
+        ≡ table_widths options.now (fits_at (all_fits_seen fits.now) at) width columns.now) }
 {
     if options.raw {
         return Ok(None);
     }
-    widths_by(alloc, fits, width, columns)
+    widths_by(alloc, fits, at, width, columns)
 }
 
 /// The rows of a table: across where its columns have widths, else with cells below one another.

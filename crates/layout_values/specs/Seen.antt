@@ -14,7 +14,6 @@ use Rattle.render_values.specs.declared.info.Head.{Head}
 use Rattle.render_values.specs.declared.info.RenderInfo.{RenderInfo}
 use Rattle.render_values.specs.declared.info.RenderInfo.TheVariants as infos
 use Rattle.layout_values.specs.Sizing.{Sizing, all_fits, in_mode}
-use Rattle.layout_tables.specs.Seen.{fits_seen}
 use Rattle.text_pieces.specs.declared.white_space.WhiteSpace.{WhiteSpace}
 use Rattle.layout_values.specs.Lay.{Content, laid, laid_outside, lay}
 use Rattle.layout_values.specs.declared.content.Content.{Content as CodeContent}
@@ -162,9 +161,8 @@ pub record IsOpened {D T H A : Type 0} (seen : T → A) (view : DecoratorView D 
       (where_entered entered inside (laying_of seen view.held new))
 
 -- what is to be known of what stands in a value
-abbrev pub content_seen : CodeContent → Content
-content_seen c =
-    record { items = c.items; least = c.least; table = table_seen c.table; fits = fits_seen c.fits }
+abbrev pub content_seen : CodeContent → (fits : Option (List ColumnFit)) → Content
+content_seen c fits = record { items = c.items; least = c.least; table = table_seen c.table; fits = fits }
 
 -- both are the same as far as a value's layout looks at them
 abbrev pub AreAlike : RenderInfo → Content → Content → Type 0

@@ -1,5 +1,4 @@
 //! What is to be known of what stands in a value.
-use column_fits::ColumnFit;
 use table_widths::Table;
 
 /// What is to be known of what stands in a value.
@@ -11,6 +10,4 @@ pub struct Content {
     pub least: usize,
     /// The table that they are where the value is one, else an empty one.
     pub table: Table,
-    /// What each of its columns asks for, where columns are fitted.
-    pub fits: Option<Vec<ColumnFit>>,
 }

@@ -3,8 +3,7 @@ ghost use Rattle.std.specs.Prelude.{◌≡◌, ◌⊎◌, Err, IfErr, IfOk, IfSo
 ghost use Rattle.std.specs.Option.{is_some};
 ghost use Rattle.block_renderer.specs.Seen.{has_failed, sub_of};
 ghost use Rattle.table_widths.specs.Shares.{AreSized};
-ghost use Rattle.column_fits.specs.Across.{AreFits};
-ghost use Rattle.layout_tables.specs.Seen.{fits_seen};
+ghost use Rattle.layout_tables.specs.Seen.{AreGivenAt, FitColumnsAt, all_fits_seen, fits_at};
 ghost use Rattle.layout_state.specs.LayoutState.{Step, in_table, in_turn};
 ghost use Rattle.layout_state.specs.Seen.{Comes, Fails, IsWorking, laying_of, made_of, place_of, slots_left};
 ghost use Rattle.layout_state.specs.Seen.{widths_seen};
@@ -41,17 +40,20 @@ pub(crate) fn hold_table<D: TextDecorator + Drop>(
     laying: &mut LayoutState<D>,
     alloc: Global,
     table: Table,
-    fits: &Option<Vec<ColumnFit>>,
+    fits: &Option<Vec<Vec<ColumnFit>>>,
+    at: usize,
 ) -> Result<Option<Continuation<D>>, BlockError>
     requires works { IsWorking D.Annotation.seen D.view.held laying.old }
     requires sized { AreSized table.columns.items }
-    requires fit { IfSome (fits_seen fits.now) (AreFits table.columns.items) }
+    requires given { AreGivenAt (all_fits_seen fits.now) at }
+    requires fit { FitColumnsAt (all_fits_seen fits.now) at table.columns.items }
     ensures opened { IfOk result (λ x. OpensWhere D.Annotation.seen D.view
-        (λ m. table_laid m (table_seen table) (fits_seen fits.now)) (is_some x) (maybe x) laying.old laying.new) }
+        (λ m. table_laid m (table_seen table) (fits_at (all_fits_seen fits.now) at)) (is_some x) (maybe x) laying.old
+        laying.new) }
     ensures works { OnOk result (IsWorking D.Annotation.seen D.view.held laying.new) }
     ensures ready { IfOk result (λ x. IfSome x WorksOutside) }
     ensures narrow { result ≡ Err errors.TooNarrow → NeverOpens D.Annotation.seen D.view
-        (λ m. table_laid m (table_seen table) (fits_seen fits.now)) laying.old }
+        (λ m. table_laid m (table_seen table) (fits_at (all_fits_seen fits.now) at)) laying.old }
     ensures kinds { IfErr result (λ e. (e ≡ errors.TooNarrow) ⊎ (e ≡ errors.Memory)) }
 {
     if table.columns.is_empty() {
@@ -60,7 +62,7 @@ pub(crate) fn hold_table<D: TextDecorator + Drop>(
     let options = laying.text.current().options();
     let width = laying.text.current().width();
     let fenced = is_fenced(&options, &laying.table);
-    let widths = table_widths(alloc, &options, fits, width, table.columns.as_slice())?;
+    let widths = table_widths(alloc, &options, fits, at, width, table.columns.as_slice())?;
     laying.start_table()?;
     fence(laying, fenced)?;
     top_border(laying, &options, &widths)?;

@@ -5,8 +5,8 @@ ghost use Rattle.render_values.specs.declared.node.RenderNode.{RenderNode};
 ghost use Rattle.layout_values.specs.Seen.{IsOpened, NeverOpens, OpensWhere, WorksOutside, content_seen, maybe};
 ghost use Rattle.layout_values.specs.Lay.{holds, laid, laid_outside, shown};
 ghost use Rattle.layout_values.specs.Continuation.{info_at};
-ghost use Rattle.column_fits.specs.Across.{AreFits};
-ghost use Rattle.layout_tables.specs.Seen.{fits_seen};
+ghost use Rattle.layout_tables.specs.Seen.{AreGivenAt, FitColumnsAt, all_fits_seen, fits_at};
+ghost use Rattle.render_values.specs.declared.info.RenderInfo.TheVariants as infos;
 ghost use Rattle.layout_state.specs.Seen.{IsWorking};
 ghost use Rattle.table_widths.specs.Shares.{AreSized};
 
@@ -16,6 +16,7 @@ use crate::looking::open_look;
 use crate::parts::{hold_details, hold_heading, hold_quote};
 use crate::tables::{hold_table, open_table_part};
 use crate::waiting::Continuation;
+use column_fits::ColumnFit;
 use layout_state::{ItemMark, LayoutState};
 use render_values::{Head, RenderInfo};
 use std::alloc::{AllocError, Global};
@@ -28,17 +29,22 @@ fn hold<D: TextDecorator + Drop>(
     laying: &mut LayoutState<D>,
     alloc: Global,
     info: &RenderInfo,
+    at: usize,
     content: Content,
+    fits: &Option<Vec<Vec<ColumnFit>>>,
 ) -> Result<(Option<Continuation<D>>, bool), BlockError>
     requires works { IsWorking D.Annotation.seen D.view.held laying.old }
     requires sized { AreSized content.table.columns.items }
-    requires fit { IfSome (fits_seen content.fits) (AreFits content.table.columns.items) }
+    requires given { AreGivenAt (all_fits_seen fits.now) at }
+    requires fit { info.now ≡ infos.Table
+        → FitColumnsAt (all_fits_seen fits.now) at content.table.columns.items }
     ensures opened { IfOk result (λ r. OpensWhere D.Annotation.seen D.view
-        (λ m. holds m info.now (content_seen content)) r.1 (maybe r.0) laying.old laying.new) }
+        (λ m. holds m info.now (content_seen content (fits_at (all_fits_seen fits.now) at))) r.1 (maybe r.0)
+        laying.old laying.new) }
     ensures works { OnOk result (IsWorking D.Annotation.seen D.view.held laying.new) }
     ensures ready { IfOk result (λ r. IfSome r.0 WorksOutside) }
     ensures narrow { result ≡ Err errors.TooNarrow → NeverOpens D.Annotation.seen D.view
-        (λ m. holds m info.now (content_seen content)) laying.old }
+        (λ m. holds m info.now (content_seen content (fits_at (all_fits_seen fits.now) at))) laying.old }
     ensures kinds { IfErr result (λ e. (e ≡ errors.TooNarrow) ⊎ (e ≡ errors.Memory)) }
 {
     let least = content.least;
@@ -55,7 +61,7 @@ fn hold<D: TextDecorator + Drop>(
             Ok((Some(list), true))
         }
         RenderInfo::Table => {
-            let table = hold_table(laying, alloc, content.table, &content.fits)?;
+            let table = hold_table(laying, alloc, content.table, fits, at)?;
             let is_shown = table.is_some();
             Ok((table, is_shown))
         }
@@ -70,23 +76,27 @@ fn open_shown<D: TextDecorator + Drop>(
     head: &Head,
     at: usize,
     content: Content,
+    fits: &Option<Vec<Vec<ColumnFit>>>,
     waiting: &mut Vec<Continuation<D>>,
 ) -> Result<bool, BlockError>
     requires works { IsWorking D.Annotation.seen D.view.held laying.old }
     requires sized { AreSized content.table.columns.items }
-    requires fit { IfSome (fits_seen content.fits) (AreFits content.table.columns.items) }
+    requires given { AreGivenAt (all_fits_seen fits.now) at }
+    requires fit { head.now.info ≡ infos.Table
+        → FitColumnsAt (all_fits_seen fits.now) at content.table.columns.items }
     ensures opened { (nodes : List RenderNode) → info_at nodes at ≡ head.now.info → IfOk result
-        (λ entered. IsOpened D.Annotation.seen D.view 2 nodes entered (λ m. shown m head.now (content_seen content))
-        waiting.old.items waiting.new.items laying.old laying.new) }
+        (λ entered. IsOpened D.Annotation.seen D.view 2 nodes entered
+        (λ m. shown m head.now (content_seen content (fits_at (all_fits_seen fits.now) at))) waiting.old.items
+        waiting.new.items laying.old laying.new) }
     ensures works { OnOk result (IsWorking D.Annotation.seen D.view.held laying.new) }
     ensures narrow { result ≡ Err errors.TooNarrow → NeverOpens D.Annotation.seen D.view
-        (λ m. shown m head.now (content_seen content)) laying.old }
+        (λ m. shown m head.now (content_seen content (fits_at (all_fits_seen fits.now) at))) laying.old }
     ensures kinds { IfErr result (λ e. (e ≡ errors.TooNarrow) ⊎ (e ≡ errors.Memory)) }
 {
     laying.lead(head)?;
     laying.begin(&head.info)?;
     waiting.push(Continuation::ValueEnds(at))?;
-    let (part, entered) = hold(laying, alloc, &head.info, content)?;
+    let (part, entered) = hold(laying, alloc, &head.info, at, content, fits)?;
     push_some(waiting, part)?;
     if !entered {
         return Ok(false);
@@ -102,52 +112,60 @@ fn open_outside<D: TextDecorator + Drop>(
     head: &Head,
     at: usize,
     content: Content,
+    fits: &Option<Vec<Vec<ColumnFit>>>,
     waiting: &mut Vec<Continuation<D>>,
 ) -> Result<bool, BlockError>
     requires works { IsWorking D.Annotation.seen D.view.held laying.old }
     requires sized { AreSized content.table.columns.items }
-    requires fit { IfSome (fits_seen content.fits) (AreFits content.table.columns.items) }
+    requires given { AreGivenAt (all_fits_seen fits.now) at }
+    requires fit { head.now.info ≡ infos.Table
+        → FitColumnsAt (all_fits_seen fits.now) at content.table.columns.items }
     ensures opened { (nodes : List RenderNode) → info_at nodes at ≡ head.now.info → IfOk result
         (λ entered. IsOpened D.Annotation.seen D.view 4 nodes entered
-        (λ m. laid_outside m head.now (content_seen content)) waiting.old.items waiting.new.items laying.old
-        laying.new) }
+        (λ m. laid_outside m head.now (content_seen content (fits_at (all_fits_seen fits.now) at))) waiting.old.items
+        waiting.new.items laying.old laying.new) }
     ensures works { OnOk result (IsWorking D.Annotation.seen D.view.held laying.new) }
     ensures narrow { result ≡ Err errors.TooNarrow → NeverOpens D.Annotation.seen D.view
-        (λ m. laid_outside m head.now (content_seen content)) laying.old }
+        (λ m. laid_outside m head.now (content_seen content (fits_at (all_fits_seen fits.now) at))) laying.old }
     ensures kinds { IfErr result (λ e. (e ≡ errors.TooNarrow) ⊎ (e ≡ errors.Memory)) }
 {
     let item = open_place(laying, alloc)?;
     push_some(waiting, item)?;
     let look = open_look(laying, head.style)?;
     push_some(waiting, look)?;
-    open_shown(laying, alloc, head, at, content, waiting)
+    open_shown(laying, alloc, head, at, content, fits, waiting)
 }
 
 /// The value of the node at a place begins, with what stands in it; what waits for its end is pushed. Emits whether
-/// what stands in it is laid out. The error is `TooNarrow` where the definition has no result, else `Memory`.
+/// what stands in it is laid out. `fits` are what the columns of tables ask for, where they are fitted. The error is
+/// `TooNarrow` where the definition has no result, else `Memory`.
 pub fn open_value<D: TextDecorator + Drop>(
     laying: &mut LayoutState<D>,
     alloc: Global,
     head: &Head,
     at: usize,
     content: Content,
+    fits: &Option<Vec<Vec<ColumnFit>>>,
     waiting: &mut Vec<Continuation<D>>,
 ) -> Result<bool, BlockError>
     requires works { IsWorking D.Annotation.seen D.view.held laying.old }
     requires sized { AreSized content.table.columns.items }
-    requires fit { IfSome (fits_seen content.fits) (AreFits content.table.columns.items) }
+    requires given { AreGivenAt (all_fits_seen fits.now) at }
+    requires fit { head.now.info ≡ infos.Table
+        → FitColumnsAt (all_fits_seen fits.now) at content.table.columns.items }
     ensures opened { (nodes : List RenderNode) → info_at nodes at ≡ head.now.info → IfOk result
-        (λ entered. IsOpened D.Annotation.seen D.view 4 nodes entered (λ m. laid m head.now (content_seen content))
-        waiting.old.items waiting.new.items laying.old laying.new) }
+        (λ entered. IsOpened D.Annotation.seen D.view 4 nodes entered
+        (λ m. laid m head.now (content_seen content (fits_at (all_fits_seen fits.now) at))) waiting.old.items
+        waiting.new.items laying.old laying.new) }
     ensures works { OnOk result (IsWorking D.Annotation.seen D.view.held laying.new) }
     ensures narrow { result ≡ Err errors.TooNarrow → NeverOpens D.Annotation.seen D.view
-        (λ m. laid m head.now (content_seen content)) laying.old }
+        (λ m. laid m head.now (content_seen content (fits_at (all_fits_seen fits.now) at))) laying.old }
     ensures kinds { IfErr result (λ e. (e ≡ errors.TooNarrow) ⊎ (e ≡ errors.Memory)) }
 {
     let part = open_table_part(laying, alloc, head, waiting)?;
     match part {
         Some(entered) => Ok(entered),
-        None => open_outside(laying, alloc, head, at, content, waiting),
+        None => open_outside(laying, alloc, head, at, content, fits, waiting),
     }
 }
 

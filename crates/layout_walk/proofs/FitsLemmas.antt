@@ -8,7 +8,7 @@ use Rattle.block_trait.specs.declared.options.RenderOptions.{RenderOptions}
 use Rattle.column_fits.specs.declared.fit.ColumnFit.{ColumnFit}
 use Rattle.layout_values.specs.Seen.{fits_between}
 use Rattle.layout_values.specs.Sizing.{Sizing, all_fits}
-use Rattle.layout_walk.specs.Seen.{fits_at}
+use Rattle.layout_tables.specs.Seen.{fits_at}
 use Rattle.render_sizes.specs.Extents.{Measure}
 use Rattle.render_values.specs.Values.{Values, count, none, value}
 use Rattle.render_values.specs.declared.info.Head.{Head}

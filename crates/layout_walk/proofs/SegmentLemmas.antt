@@ -19,7 +19,7 @@ use Rattle.layout_values.specs.Continuation.{info_at}
 use Rattle.layout_values.specs.Seen.{fits_between}
 use Rattle.layout_values.specs.Sizing.{Sizing, all_fits, fits_in, within}
 use Rattle.layout_walk.proofs.FitsLemmas.{AreGiven, IsFitted, all_between, first_fits, no_fits}
-use Rattle.layout_walk.specs.Seen.{fits_at}
+use Rattle.layout_tables.specs.Seen.{fits_at}
 use Rattle.table_fits.proofs.SegmentLemmas.{drop_none, segment_all, segment_back, segment_first, segment_front}
 use Rattle.table_fits.proofs.SegmentLemmas.{segment_none, take_none}
 use Rattle.table_fits.specs.Walk.{segment}

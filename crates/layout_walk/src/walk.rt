@@ -1,7 +1,6 @@
 //! A render tree, laid out value by value.
 ghost use Rattle.std.specs.Prelude.{◌≡◌, ◌⊎◌, ◌+◌, ◌*◌, ◌-◌, ◌<◌, ◌≤◌, ◌++◌, if◌then◌else◌, All, Err, IfErr, IfOk};
-ghost use Rattle.std.specs.Prelude.{IfSome, List, None, OnOk, Option, chars, false, length, string_bytes};
-ghost use Rattle.column_fits.specs.Across.{AreFits};
+ghost use Rattle.std.specs.Prelude.{List, None, OnOk, Option, chars, false, length, string_bytes};
 ghost use Rattle.column_fits.specs.declared.fit.ColumnFit.{ColumnFit as SeenFit};
 ghost use Rattle.block_renderer.specs.Seen.{IsTagging, has_failed, marking, sub_of};
 ghost use Rattle.layout_values.specs.Seen.{AreAlike, GoesOn, IsReady, IsSound, NeverGoes, content_seen, load, rest_of};
@@ -14,10 +13,10 @@ ghost use Rattle.render_sizes.specs.declared.asked.Asked.TheVariants as asks;
 ghost use Rattle.render_sizes.specs.Extents.{extent_of, extents};
 ghost use Rattle.render_sizes.specs.declared.extent.Extent.{Extent as SeenExtent};
 ghost use Rattle.render_values.specs.Arena.{IsFlat, values_of};
-ghost use Rattle.layout_tables.specs.Seen.{fits_seen};
 ghost use Rattle.layout_values.specs.Lay.{content_of, laid_parts, lay};
 ghost use Rattle.layout_values.specs.Sizing.{Sizing, all_fits, fits_in, in_mode};
-ghost use Rattle.layout_walk.specs.Seen.{all_fits_seen, fits_at};
+ghost use Rattle.layout_tables.specs.Seen.{FitColumnsAt, all_fits_seen, fits_at};
+ghost use Rattle.render_values.specs.declared.info.RenderInfo.TheVariants as infos;
 ghost use Rattle.text_pieces.specs.declared.white_space.WhiteSpace.TheVariants.{Normal};
 ghost use Rattle.text_block_renderer.specs.Parts.{depth_of};
 ghost use Rattle.text_block_renderer.specs.SeenParts.{PartsCome, PartsFail, current_has_failed, page_has_failed};
@@ -66,27 +65,8 @@ fn extents_between(sizes: &[Extent], from: usize, to: usize) -> &[Extent]
     &sizes[from..to]
 }
 
-// what the columns of the table at a place ask for
-fn fits_at(
-    alloc: Global,
-    fits: &Option<Vec<Vec<ColumnFit>>>,
-    at: usize,
-) -> Result<Option<Vec<ColumnFit>>, AllocError>
-    requires there { IfSome (all_fits_seen fits.now) (λ l. at < length l) }
-    ensures { IfOk result (λ r. fits_seen r ≡ fits_at (all_fits_seen fits.now) at) }
-{
-    match fits {
-        None => Ok(None),
-        Some(fits) => {
-            let mut here = Vec::new(alloc);
-            here.extend_from_slice(fits[at].as_slice())?;
-            Ok(Some(here))
-        }
-    }
-}
-
-// What a layout looks at of what stands in the next value, which asks for so many columns: a table's cells and what its
-// columns ask for, how many items a list has.
+// What a layout looks at of what stands in the next value, which asks for so many columns: a table's cells, how many
+// items a list has.
 fn content_of(
     alloc: Global,
     head: &Head,
@@ -101,37 +81,34 @@ fn content_of(
     requires sized { asked_of head.now.info ≡ asks.Inside → sizes.now ≡ extents w.measure (values_of inside.now) }
     requires least { asked_of head.now.info ≡ asks.Itself
         → least ≡ (extent_of w.measure head.now (values_of inside.now)).least }
-    requires there { IfSome (all_fits_seen fits.now) (λ l. place.at < length l) }
     requires fitted { fits_at (all_fits_seen fits.now) place.at
         ≡ fits_in (in_mode w place.mode) head.now (values_of inside.now) }
-    ensures alike { IfOk result (λ c. AreAlike head.now.info (content_seen c)
+    ensures alike { IfOk result (λ c. AreAlike head.now.info
+        (content_seen c (fits_at (all_fits_seen fits.now) place.at))
         (content_of (in_mode w place.mode) head.now (values_of inside.now))) }
     ensures sized { IfOk result (λ c. AreSized c.table.columns.items) }
-    ensures fit { IfOk result (λ c. IfSome (fits_seen c.fits) (AreFits c.table.columns.items)) }
+    ensures fit { head.now.info ≡ infos.Table
+        → IfOk result (λ c. FitColumnsAt (all_fits_seen fits.now) place.at c.table.columns.items) }
 {
     tables_have_fits();
     match &head.info {
         RenderInfo::Table => {
             let table = table_among(alloc, inside, sizes)?;
-            let fits = fits_at(alloc, fits, place.at)?;
             Ok(Content {
                 items: 0,
                 least,
                 table,
-                fits,
             })
         }
         RenderInfo::Bullets | RenderInfo::Numbers(_) => Ok(Content {
             items: number(inside),
             least,
             table: Table::empty(alloc),
-            fits: None,
         }),
         _ => Ok(Content {
             items: 0,
             least,
             table: Table::empty(alloc),
-            fits: None,
         }),
     }
 }
@@ -337,7 +314,7 @@ fn enter<D: TextDecorator + Drop>(
     let inside = nodes_between(nodes, first, trailing);
     let inner = extents_between(sizes, first, trailing);
     let content = content_of(alloc, &node.head, extent.least, inside, inner, fits, place)?;
-    let entered = open_value(laying, alloc, &node.head, place.at, content, waiting)?;
+    let entered = open_value(laying, alloc, &node.head, place.at, content, fits, waiting)?;
     let mode = mode_in(place.mode, &node.head);
     Ok(Place {
         mode,

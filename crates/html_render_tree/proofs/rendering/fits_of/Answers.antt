@@ -2,8 +2,8 @@ use Rattle.std.proofs.Common.{◌≡◌, Some, ap, false, rules, true, ◌∙◌
 use Rattle.html_render_tree.proofs.SizingLemmas.{fitted, unfitted}
 use Rattle.html_render_tree.proofs.rendering.fits_of.Goals as goal
 
-pub returns-then : goal.returns-then
-returns-then g c =
+pub returns-then-not-options : goal.returns-then-not-options
+returns-then-not-options g c =
     let off : c.args.options.now.fit_columns ≡ false = search rules in
     unfitted c.args.options.now g.w c.args.tree.now off
 

@@ -5,6 +5,7 @@ use Rattle.std.specs.Option.{option_and_then}
 use Rattle.text_pieces.specs.declared.fault.BlockError.TheVariants.{TooNarrow}
 use Rattle.block_renderer.specs.Seen.{marking}
 use Rattle.layout_state.specs.Seen.{laying_of}
+use Rattle.layout_tables.specs.Seen.{all_fits_seen, fits_at}
 use Rattle.layout_values.specs.Seen.{WorksOutside, all_waiting, content_seen, maybe}
 use Rattle.layout_values.specs.Continuation.{unwound, value_ends}
 use Rattle.layout_values.specs.declared.waiting.Continuation.TheVariants.{ValueEnds}
@@ -19,7 +20,8 @@ returns-clause-opened g c = λ nodes here. record {
   pushed = two_on _ _ _ _ _ c.in_ok-push.ensures.items c.in_ok-push_some.ensures;
   works = All-cons WorksOutside _ _ tt (maybe_all WorksOutside c.in_ok-part.part c.in_ok-part.ensures.ready);
   few = omega (arith, maybe_few c.in_ok-part.part);
-  opens = λ tag p w inside. shown_opens _ w c.args.head.now (content_seen c.args.content) inside _ _ _ _ _ _
+  opens = λ tag p w inside. shown_opens _ w c.args.head.now (content_seen c.args.content
+      (fits_at (all_fits_seen c.args.fits.now) c.args.at)) inside _ _ _ _ _ _
       c.in_ok-part.entered c.if-not-entered.false (c.in_ok-lead.ensures.done tag p) (c.in_ok-begin.ensures.done tag p)
       (c.in_ok-part.ensures.opened tag p nodes w) (c.in_ok-follow.ensures.done tag p)
       ∙ ap (λ i. option_and_then (unwound (marking g.D.TextDecorator.view tag) w (value_ends i ∷ all_waiting
@@ -35,7 +37,8 @@ returns-then-not-entered-clause-opened g c = λ nodes here. record {
   pushed = two_on _ _ _ _ _ c.in_ok-push.ensures.items c.in_ok-push_some.ensures;
   works = All-cons WorksOutside _ _ tt (maybe_all WorksOutside c.in_ok-part.part c.in_ok-part.ensures.ready);
   few = omega (arith, maybe_few c.in_ok-part.part);
-  opens = λ tag p w inside. shown_alone _ w c.args.head.now (content_seen c.args.content) inside _ _ _ _ _
+  opens = λ tag p w inside. shown_alone _ w c.args.head.now (content_seen c.args.content
+      (fits_at (all_fits_seen c.args.fits.now) c.args.at)) inside _ _ _ _ _
       c.in_ok-part.entered c.if-not-entered.true (c.in_ok-lead.ensures.done tag p) (c.in_ok-begin.ensures.done tag p)
       (c.in_ok-part.ensures.opened tag p nodes w)
       ∙ ap (λ i. option_and_then (unwound (marking g.D.TextDecorator.view tag) w (value_ends i ∷ all_waiting
@@ -48,7 +51,8 @@ pub returns-in_err-follow-clause-narrow : goal.returns-in_err-follow-clause-narr
 returns-in_err-follow-clause-narrow g c = λ e. λ tag p inside.
     let q = err_from_is_err_and c.from_residual-in_err-follow.result c.from_residual-in_err-follow.ensures.1 in
     let same : c.in_err-follow.field-0.0 ≡ TooNarrow = cc (q.1, q.2, e) in
-    no_follow _ any_sizing c.args.head.now (content_seen c.args.content)
+    no_follow _ any_sizing c.args.head.now (content_seen c.args.content
+    (fits_at (all_fits_seen c.args.fits.now) c.args.at))
     inside _ _ _ _ _ c.in_ok-part.entered c.if-not-entered.false (c.in_ok-lead.ensures.done tag p)
     (c.in_ok-begin.ensures.done tag p) (c.in_ok-part.ensures.opened tag p [] any_sizing)
     (c.in_err-follow.ensures.narrow (ap Err same) tag p)
@@ -57,18 +61,21 @@ pub returns-in_err-lead-clause-narrow : goal.returns-in_err-lead-clause-narrow
 returns-in_err-lead-clause-narrow g c = λ e. λ tag p inside.
     let q = err_from_is_err_and c.from_residual.result c.from_residual.ensures.1 in
     let same : c.in_err-lead.field-0.0 ≡ TooNarrow = cc (q.1, q.2, e) in
-    no_lead _ c.args.head.now (content_seen c.args.content) inside _ (c.in_err-lead.ensures.narrow (ap Err same) tag p)
+    no_lead _ c.args.head.now (content_seen c.args.content
+    (fits_at (all_fits_seen c.args.fits.now) c.args.at)) inside _ (c.in_err-lead.ensures.narrow (ap Err same) tag p)
 
 pub returns-in_err-begin-clause-narrow : goal.returns-in_err-begin-clause-narrow
 returns-in_err-begin-clause-narrow g c = λ e. λ tag p inside.
     let q = err_from_is_err_and c.from_residual-in_err-begin.result c.from_residual-in_err-begin.ensures.1 in
     let same : c.in_err-begin.field-0.0 ≡ TooNarrow = cc (q.1, q.2, e) in
-    no_begin _ c.args.head.now (content_seen c.args.content) inside _ _ (c.in_ok-lead.ensures.done tag p)
+    no_begin _ c.args.head.now (content_seen c.args.content
+    (fits_at (all_fits_seen c.args.fits.now) c.args.at)) inside _ _ (c.in_ok-lead.ensures.done tag p)
     (c.in_err-begin.ensures.narrow (ap Err same) tag p)
 
 pub returns-in_err-part-clause-narrow : goal.returns-in_err-part-clause-narrow
 returns-in_err-part-clause-narrow g c = λ e. λ tag p inside.
     let q = err_from_is_err_and c.from_residual-in_err-part.result c.from_residual-in_err-part.ensures.1 in
     let same : c.in_err-part.field-0.0 ≡ TooNarrow = cc (q.1, q.2, e) in
-    no_hold _ c.args.head.now (content_seen c.args.content) inside _ _ _ (c.in_ok-lead.ensures.done tag p)
+    no_hold _ c.args.head.now (content_seen c.args.content
+    (fits_at (all_fits_seen c.args.fits.now) c.args.at)) inside _ _ _ (c.in_ok-lead.ensures.done tag p)
     (c.in_ok-begin.ensures.done tag p) (c.in_err-part.ensures.narrow (ap Err same) tag p _)

@@ -9,7 +9,7 @@ use Rattle.render_values.specs.declared.node.RenderNode.{RenderNode}
 use Rattle.layout_state.specs.Seen.{laying_of}
 use Rattle.layout_values.specs.Seen.{IsSound, all_waiting, content_seen, left, rest_of, waiting_of}
 use Rattle.layout_values.specs.Sizing.{fits_in, in_mode}
-use Rattle.layout_walk.specs.Seen.{all_fits_seen}
+use Rattle.layout_tables.specs.Seen.{all_fits_seen}
 use Rattle.table_fits.specs.Flowing.{mode_in}
 use Rattle.layout_walk.proofs.EnterLemmas.{entered, entered_load, entered_ready, goes_in, known_in, rest_waits}
 use Rattle.layout_walk.proofs.EnterLemmas.{short_in, sound_in}

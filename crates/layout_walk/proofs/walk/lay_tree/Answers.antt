@@ -8,7 +8,7 @@ use Rattle.render_values.specs.Arena.{values_of}
 use Rattle.render_values.specs.Reading.{read_back}
 use Rattle.text_block_renderer.specs.SeenParts.{parts_of}
 use Rattle.layout_values.specs.Sizing.{all_fits, in_mode}
-use Rattle.layout_walk.specs.Seen.{all_fits_seen}
+use Rattle.layout_tables.specs.Seen.{all_fits_seen}
 use Rattle.text_pieces.specs.declared.white_space.WhiteSpace.TheVariants.{Normal}
 use Rattle.layout_walk.proofs.WalkLemmas.{laid_by, never_laid, none_below}
 use Rattle.layout_walk.proofs.walk.lay_tree.Goals as goal

@@ -12,7 +12,7 @@ use Rattle.layout_state.specs.Seen.{laying_of}
 use Rattle.layout_values.specs.Seen.{IsReady, all_waiting, waiting_of}
 use Rattle.layout_values.specs.Continuation.{unwound}
 use Rattle.layout_values.specs.Sizing.{in_mode}
-use Rattle.layout_walk.specs.Seen.{all_fits_seen}
+use Rattle.layout_tables.specs.Seen.{all_fits_seen}
 use Rattle.table_fits.specs.Walk.{segment}
 use Rattle.text_pieces.specs.declared.white_space.WhiteSpace.TheVariants.{Normal}
 use Rattle.layout_walk.proofs.EnterLemmas.{front_ready, left_load}

@@ -4,7 +4,7 @@ use Rattle.block_renderer.specs.Seen.{IsTagging, marking}
 use Rattle.render_values.specs.Arena.{values_of}
 use Rattle.layout_values.specs.Lay.{lay}
 use Rattle.layout_values.specs.Sizing.{in_mode}
-use Rattle.layout_walk.specs.Seen.{all_fits_seen}
+use Rattle.layout_tables.specs.Seen.{all_fits_seen}
 use Rattle.text_pieces.specs.declared.white_space.WhiteSpace.TheVariants.{Normal}
 use Rattle.layout_state.specs.Seen.{IsWorking, laying_of}
 use Rattle.layout_values.specs.Seen.{IsReady, IsSound, left, load}
