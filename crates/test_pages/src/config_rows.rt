@@ -27,6 +27,8 @@ enum Look {
     SkipHidden,
     /// Completely.
     Complete,
+    /// With columns of tables that are fitted.
+    Fitted,
     /// With targets that are printable, each once.
     Printable,
     /// By a table of these references.
@@ -64,7 +66,11 @@ const ESCAPES: &[u8] = b"<a href='u%1B'>a</a> <a href='u&#27;'>b</a> <a href='u&
 
 const WHOLE: &[u8] = b"<p>a</p><hr><p>b <q>c</q></p><noscript><p>d</p></noscript>";
 
-static ROWS: [Row; 19] = [
+const NAMED: &[u8] = b"<table><tr><td>abcdefgh<td>aa bb cc</table>";
+
+const NAMED_TEXT: &str = "────────┬───\nabcdefgh│aa \n        │bb \n        │cc \n────────┴───\n";
+
+static ROWS: [Row; 20] = [
     (Look::Plain, 20, MARKED, Ok("a *b* [c][1]\n\n[1]: x\n")),
     (Look::NoTargets, 20, MARKED, Ok("a *b* [c]\n")),
     (Look::NoMarks, 20, MARKED, Ok("a b [c]\n")),
@@ -74,6 +80,7 @@ static ROWS: [Row; 19] = [
     (Look::Options, 10, OPTIONAL, Ok(OPTIONAL_TEXT)),
     (Look::Hidden, 20, b"<p>a</p>b<em>c", Ok("b*c*\n")),
     (Look::Complete, 3, WHOLE, Ok("a\n\n───\n\nb\n“c”\n\nd\n")),
+    (Look::Fitted, 12, NAMED, Ok(NAMED_TEXT)),
     (Look::SkipHidden, 20, HIDING, Ok("c\n\nd\n\n─\nf\n─\n")),
     (
         Look::Printable,
@@ -150,6 +157,7 @@ fn config_of(alloc: Global, look: &Look) -> Result<Config<PlainDecorator>, Error
             config.style_rules(rules)
         }
         Look::Complete => Ok(config.complete(true)),
+        Look::Fitted => Ok(config.fit_columns(true)),
         Look::Printable => Ok(config.shared_footnotes(true).printable_targets(true)),
         Look::SkipHidden => Ok(config.skip_hidden(true)),
         Look::Names(names) => match ReferenceTable::new(alloc, names) {
