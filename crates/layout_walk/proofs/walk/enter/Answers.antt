@@ -9,7 +9,7 @@ use Rattle.render_values.specs.declared.node.RenderNode.{RenderNode}
 use Rattle.layout_state.specs.Seen.{laying_of}
 use Rattle.layout_values.specs.Seen.{IsSound, all_waiting, content_seen, left, rest_of, waiting_of}
 use Rattle.layout_values.specs.Sizing.{fits_in, in_mode}
-use Rattle.layout_tables.specs.Seen.{all_fits_seen}
+use Rattle.layout_tables.specs.Seen.{all_fits_seen, fits_at}
 use Rattle.table_fits.specs.Flowing.{mode_in}
 use Rattle.layout_walk.proofs.EnterLemmas.{entered, entered_load, entered_ready, goes_in, known_in, rest_waits}
 use Rattle.layout_walk.proofs.EnterLemmas.{short_in, sound_in}
@@ -55,12 +55,9 @@ content_of-requires g c =
           λ asks. ap (λ (e : Extent). e.least) (n.size asks (record { size = 0; least = 0 }))
               ∙ ap (λ (l : List RenderNode). (extent_of g.w.measure c.index-nodes-place.result.head
               (values_of l)).least) (sym c.nodes_between-inside.ensures),
-          (
-            n.fits_there,
-            n.fitted
-                ∙ ap (λ (l : List RenderNode). fits_in (in_mode g.w c.args.place.mode)
-                c.index-nodes-place.result.head (values_of l)) (sym c.nodes_between-inside.ensures),
-          ),
+          n.fitted
+              ∙ ap (λ (l : List RenderNode). fits_in (in_mode g.w c.args.place.mode)
+              c.index-nodes-place.result.head (values_of l)) (sym c.nodes_between-inside.ensures),
         ),
       ),
     )
@@ -71,18 +68,25 @@ bounds-sizes-place g c = (first_node c.args.nodes.now c.args.sizes.now (all_fits
     c.index-nodes-place.result
     c.index-nodes-place.is c.requires.1.1.1.0 c.requires.1.1.1.1).there
 
+pub open_value-requires-clause-given : goal.open_value-requires-clause-given
+open_value-requires-clause-given g c = (first_node c.args.nodes.now c.args.sizes.now (all_fits_seen c.args.fits.now)
+    (in_mode g.w c.args.place.mode) c.args.place.at c.args.place.end c.index-nodes-place.result
+    c.index-nodes-place.is c.requires.1.1.1.0 c.requires.1.1.1.1).fits_there
+
 pub returns-in_err-entered-clause-narrow : goal.returns-in_err-entered-clause-narrow
 returns-in_err-entered-clause-narrow g c = λ e. λ tag p.
     let q = err_from_is_err_and c.from_residual-in_err-entered.result c.from_residual-in_err-entered.ensures.1 in
     let same : c.in_err-entered.field-0.0 ≡ TooNarrow = cc (q.1, q.2, e) in
     never_enters (marking g.D.TextDecorator.view tag) g.w (in_mode g.w c.args.place.mode)
     (all_waiting g.D.Annotation.EqualCopy.seen g.D.TextDecorator.view.held c.args.nodes.now c.args.waiting.now.items)
-    c.index-nodes-place.result.head _ _ _ (content_seen c.in_ok-content.content) (laying_of
+    c.index-nodes-place.result.head _ _ _ (content_seen c.in_ok-content.content
+    (fits_at (all_fits_seen c.args.fits.now) c.args.place.at)) (laying_of
     g.D.Annotation.EqualCopy.seen g.D.TextDecorator.view.held c.args.laying.now)
     (first_node c.args.nodes.now c.args.sizes.now (all_fits_seen c.args.fits.now)
     (in_mode g.w c.args.place.mode) c.args.place.at c.args.place.end c.index-nodes-place.result
     c.index-nodes-place.is c.requires.1.1.1.0 c.requires.1.1.1.1).are
-    (known_in (in_mode g.w c.args.place.mode) c.index-nodes-place.result.head (content_seen c.in_ok-content.content) _ _
+    (known_in (in_mode g.w c.args.place.mode) c.index-nodes-place.result.head (content_seen c.in_ok-content.content
+    (fits_at (all_fits_seen c.args.fits.now) c.args.place.at)) _ _
     c.in_ok-content.ensures.alike c.nodes_between-inside.ensures)
     (c.in_err-entered.ensures.narrow (ap Err same) tag p)
 
@@ -104,14 +108,16 @@ returns-clause-goes g c = λ tag p.
     c.args.waiting.now.items c.push_nodes.new.waiting.items
     (rest_of c.args.place.mode (c.args.place.at + 1 + c.index-nodes-place.result.below) c.args.place.end) o.items
     c.open_value.new.waiting.items c.index-nodes-place.result.head _ _ _ _
-    (content_seen c.in_ok-content.content) c.in_ok-entered.entered
+    (content_seen c.in_ok-content.content
+    (fits_at (all_fits_seen c.args.fits.now) c.args.place.at)) c.in_ok-entered.entered
     (laying_of g.D.Annotation.EqualCopy.seen g.D.TextDecorator.view.held c.args.laying.now) (laying_of
     g.D.Annotation.EqualCopy.seen g.D.TextDecorator.view.held c.open_value.new.laying) c.in_ok-push_nodes.ensures
     o.pushed
     (rest_waits g.D.Annotation.EqualCopy.seen g.D.TextDecorator.view.held c.args.nodes.now
     (marking g.D.TextDecorator.view tag) g.w c.args.place.mode (c.args.place.at + 1 + c.index-nodes-place.result.below)
     c.args.place.end) n.are
-    (known_in (in_mode g.w c.args.place.mode) c.index-nodes-place.result.head (content_seen c.in_ok-content.content) _ _
+    (known_in (in_mode g.w c.args.place.mode) c.index-nodes-place.result.head (content_seen c.in_ok-content.content
+    (fits_at (all_fits_seen c.args.fits.now) c.args.place.at)) _ _
     c.in_ok-content.ensures.alike c.nodes_between-inside.ensures)
     (o.opens tag p g.w)
     (goes_in (marking g.D.TextDecorator.view tag)
