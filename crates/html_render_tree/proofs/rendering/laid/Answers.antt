@@ -1,4 +1,4 @@
-use Rattle.std.proofs.Common.{◌≡◌, [], Err, ap, subst, sym, ◌∙◌}
+use Rattle.std.proofs.Common.{◌≡◌, [], Err, ap, rules, subst, sym, ◌∙◌}
 use Rattle.block_renderer.specs.Seen.{marking}
 use Rattle.render_conversion.specs.declared.error.RenderError.TheVariants.{TooNarrow}
 use Rattle.render_sizes.specs.Asked.{AreMeasured}
@@ -12,14 +12,17 @@ use Rattle.html_render_tree.specs.PageLines.{begun_as, prefix_columns}
 use Rattle.html_render_tree.proofs.rendering.laid.Goals as goal
 
 pub fits_of-requires : goal.fits_of-requires
-fits_of-requires g c =
+fits_of-requires g c = λ lives k.
     let same : measure_of c.args.min_wrap_width (prefix_columns (g.D.TextDecorator.view.text
     (g.D.TextDecorator.view.held c.new-prefixes.result.decorator))) ≡ g.w.measure =
     ap (λ d. measure_of c.args.min_wrap_width (prefix_columns (g.D.TextDecorator.view.text
     (g.D.TextDecorator.view.held d)))) c.new-prefixes.ensures ∙ ap (λ (v : Sizing). v.measure) (sym c.requires.1.1) in (
-      sym (ap (λ (v : Measure). v.prefixes) same),
-      λ on. c.as_slice.ensures.value
-          ∙ (c.in_ok-sizes.ensures.whole on ∙ ap (λ v. extents v c.args.tree.now) same),
+      first_of (search rules, search (rules, k.0, k.1)),
+      (
+        sym (ap (λ (v : Measure). v.prefixes) same),
+        λ on. c.as_slice.ensures.value
+            ∙ (c.in_ok-sizes.ensures.whole on ∙ ap (λ v. extents v c.args.tree.now) same),
+      ),
     )
 
 pub lay_tree-requires : goal.lay_tree-requires
