@@ -6,7 +6,7 @@
 The first two are built by bench/unproved.sh (or by the gate's compiler) from bench/count_tokens and bench/count_trees,
 the third by bench/html5ever/build.sh. Each reads the page in pieces of 64 KB; the figure is two readings less one, by
 `valgrind --tool=callgrind`, divided by the bytes of the page. A page whose name begins with `script` begins in script
-data, for the tokenizer alone. Four runs are counted at a time where there are so many processors."""
+data, for the tokenizer alone. Four runs are counted at a time where there are that many processors."""
 import os
 import re
 import subprocess

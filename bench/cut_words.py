@@ -19,6 +19,8 @@ import subprocess
 import sys
 from concurrent.futures import ThreadPoolExecutor
 
+from real_pages import unpacked
+
 PACKAGES = {
     "postgresql-doc-15": "postgresql-doc-15/html",
     "sqlite3-doc": "sqlite3",
@@ -27,17 +29,6 @@ PACKAGES = {
 }
 MOST, WIDTH, WIDE, LARGE = 30, 80, 5000, 200_000
 ESCAPES = {"\\": "\\\\", "\n": "\\n", "\t": "\\t"}
-
-
-def unpacked(folder):
-    """The folder of the packages' documents, which are downloaded where they are not there yet."""
-    documents = os.path.join(folder, "usr/share/doc")
-    if not os.path.isdir(documents):
-        os.makedirs(folder, exist_ok=True)
-        subprocess.run(["apt-get", "download", "-qq", *PACKAGES], cwd=folder, check=True)
-        for package in (it for it in os.listdir(folder) if it.endswith(".deb")):
-            subprocess.run(["dpkg-deb", "-x", package, "."], cwd=folder, check=True)
-    return documents
 
 
 def pages_in(folder):
@@ -94,7 +85,7 @@ def main(words):
     if len(words) != 2:
         print(__doc__, file=sys.stderr)
         return 2
-    documents, program = unpacked(words[0]), os.path.abspath(words[1])
+    documents, program = unpacked(words[0], PACKAGES), os.path.abspath(words[1])
     totals = collections.Counter()
     for package, folder in PACKAGES.items():
         files = pages_in(os.path.join(documents, folder))

@@ -8,21 +8,21 @@ here=$(cd "$(dirname "$0")" && pwd)
 build_program "$here" dump_trees \
   "dom_writing tree_forest html_tree_builder html_render_dom thiserror" '<p>' dump
 
-tell() {
+show() {
   read -r bytes written dropped < <("$crate/out/dump_trees" "$2" <"$folder/page")
   python3 -c "print(f'$1: $bytes bytes, written in {$written / 1000:.1f} ms, dropped in {$dropped / 1000:.1f} ms')"
 }
 
 for count in 125000 250000 500000; do
   python3 "$here/make_nested.py" flat "$count" >"$folder/page"
-  tell "paragraphs with a text, $count" dump
+  show "paragraphs with a text, $count" dump
 done
 # the lines of elements within one another are as long as their levels, so all together grow as the square
 for count in 5000 10000 20000; do
   python3 "$here/make_nested.py" div "$count" >"$folder/page"
-  tell "elements within one another, $count" dump
+  show "elements within one another, $count" dump
 done
 for count in 50000 100000 200000; do
   python3 "$here/make_nested.py" div "$count" >"$folder/page"
-  tell "elements within one another, $count" drop
+  show "elements within one another, $count" drop
 done

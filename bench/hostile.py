@@ -4,7 +4,7 @@
     bench/hostile.py PROGRAM [WORD..]
 
 With words, only the kinds whose name has one of them. A run is at width 72 from standard input, on a stack of 1 MB,
-with an address space of 8 GB and 120 s of processor time at most. A line tells a kind: the bytes of its longest page;
+with an address space of 8 GB and 120 s of processor time at most. A line is of a kind: the bytes of its longest page;
 the user processor seconds of each length, the best of three runs, or of one that takes a second; the exponent from the
 last two, of the time and of the text that came, where they are long enough to say; the peak of memory, what a page of
 one letter takes left out, and what that is a byte of the page; and what the longest page came to. Kinds that nest have
@@ -123,7 +123,7 @@ def written(page, file):
 def run(words, source):
     """User seconds, bytes of memory at most, lines and bytes of the text, and what it came to.
 
-    GNU time starts the program: the peak that the system tells of a child has that of its parent in it.
+    GNU time starts the program: the peak that the system reports of a child has that of its parent in it.
     """
     with tempfile.TemporaryFile() as output, tempfile.TemporaryFile() as errors, tempfile.NamedTemporaryFile() as spent:
         source.seek(0)
@@ -150,11 +150,11 @@ def best(words, source):
 
 
 def exponent(shorter, longer, least, times=2):
-    """By which power a figure grew, of pages of which one is so many times the other."""
+    """By which power a figure grew, of pages of which one is that many times the other."""
     return f"{math.log(longer / shorter, times):.2f}" if shorter >= least else ""
 
 
-def tell(name, size, seconds, powers, memory, came):
+def show(name, size, seconds, powers, memory, came):
     """Tells the line of a page."""
     shown = " ".join(f"{s:.2f}" for s in seconds)
     figures = [*powers, f"{memory / 1e6:.0f} MB", f"{memory / size:.0f}"]
@@ -162,7 +162,7 @@ def tell(name, size, seconds, powers, memory, came):
 
 
 def measure(program, kind):
-    """Times the pages of a kind, and tells its lines."""
+    """Times the pages of a kind, and prints its lines."""
     name, page, count, words, further = kind
     ran = []
     for times in (1, 2, 4, 8):
@@ -172,7 +172,7 @@ def measure(program, kind):
     empty = smallest(program)
     seconds = [r[0] for r in ran]
     powers = [exponent(seconds[2], seconds[3], 0.02), exponent(ran[2][2], ran[3][2], 1000)]
-    tell(f"{count * 8:,} {name}", size, seconds, powers, max(0, ran[3][1] - empty), ran[3][3])
+    show(f"{count * 8:,} {name}", size, seconds, powers, max(0, ran[3][1] - empty), ran[3][3])
     if further:
         grows = math.log2(seconds[3] / seconds[2]) if seconds[2] >= 0.02 else 1
         if seconds[3] * 10**grows > SECONDS:
@@ -182,7 +182,7 @@ def measure(program, kind):
             size = written(page(count * 80), source)
             longest = run([program, *words], source)
         powers = [exponent(seconds[3], longest[0], 0.02, 10), exponent(ran[3][2], longest[2], 1000, 10)]
-        tell(f"{count * 80:,} {name}", size, [longest[0]], powers, max(0, longest[1] - empty), longest[3])
+        show(f"{count * 80:,} {name}", size, [longest[0]], powers, max(0, longest[1] - empty), longest[3])
 
 
 def smallest(program):

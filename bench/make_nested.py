@@ -1,4 +1,4 @@
-"""Writes a page of so many parts of a kind to standard output: pages on which a tree builder could take more than its
+"""Writes a page of the given number of parts of a kind to standard output: pages on which a tree builder could take more than its
 time."""
 import sys
 

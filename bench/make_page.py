@@ -1,4 +1,4 @@
-"""Writes a page of paragraphs of about so many megabytes to standard output."""
+"""Writes a page of paragraphs to standard output, of about the given megabytes."""
 import random
 import sys
 

@@ -1,4 +1,4 @@
-"""Writes a page of a kind, of about so many megabytes, to standard output."""
+"""Writes a page of a kind to standard output, of about the given megabytes."""
 import random
 import sys
 

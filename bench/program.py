@@ -28,8 +28,8 @@ def run(program, page):
         return usage.ru_utime + usage.ru_stime, usage.ru_maxrss, output.read(), errors.read().decode()
 
 
-def tell(program, name, page):
-    """Times a page, and tells its line."""
+def show(program, name, page):
+    """Times a page, and prints its line."""
     runs = [run(program, page) for _ in range(5)]
     seconds, memory = min(r[0] for r in runs), min(r[1] for r in runs)
     lines, fault = runs[0][2].count(b"\n"), runs[0][3].strip()
@@ -38,22 +38,22 @@ def tell(program, name, page):
     print(f"| {name} | {len(page):,} | {seconds:.2f} | {speed} | {memory / 1000:.0f} MB | {came} |")
 
 
-def tell_all(program, named_pages):
-    """Times pages, each with its name, on a stack of one megabyte, and tells their lines below a head."""
+def show_all(program, named_pages):
+    """Times pages, each with its name, on a stack of one megabyte, and prints their lines below a head."""
     resource.setrlimit(resource.RLIMIT_STACK, (1 << 20, 1 << 20))
     print("| page | bytes | seconds | a second | memory | came to |\n|---|---|---|---|---|---|")
     for name, page in named_pages:
-        tell(program, name, page.encode())
+        show(program, name, page.encode())
 
 
 def main():
     if len(sys.argv) != 2:
         sys.exit(__doc__)
-    tell_all(sys.argv[1], pages())
+    show_all(sys.argv[1], pages())
     maker = os.path.join(os.path.dirname(os.path.abspath(__file__)), "make_tokens.py")
     for size in ("1", "2", "4", "8"):
         page = subprocess.run([sys.executable, maker, "markup", size], capture_output=True, check=True).stdout
-        tell(sys.argv[1], f"markup, {size} MB", page)
+        show(sys.argv[1], f"markup, {size} MB", page)
 
 
 if __name__ == "__main__":

@@ -6,9 +6,9 @@
 The packages are downloaded into FOLDER and unpacked there, the first time; nothing of them is installed. A PROGRAM is a
 built html2text_program (also one of bench/unproved.sh), or a peer by the name of its file: `links`, `w3m`, `lynx`, or
 `html2text_rs` (bench/html2text_rs/build.sh). Each writes the page's text in 80 columns. For each page and program a
-line tells instructions a byte of the page (`valgrind --tool=cachegrind`), requests for memory (`--tool=memcheck`) and
+line says instructions a byte of the page (`valgrind --tool=cachegrind`), requests for memory (`--tool=memcheck`) and
 the peak of memory in KB; after it, for all but the first program, how its instructions compare with the first's, and
-whether both write the same. Four pages are counted at a time, where there are so many processors.
+whether both write the same. Four pages are counted at a time, where there are that many processors.
 """
 
 import os
@@ -36,12 +36,12 @@ PEERS = {
 }
 
 
-def unpacked(folder):
-    """The folder of the packages' documents, which are downloaded where they are not there yet."""
+def unpacked(folder, packages):
+    """The folder of the documents of these packages, which are downloaded where they are not there yet."""
     documents = os.path.join(folder, "usr/share/doc")
     if not os.path.isdir(documents):
         os.makedirs(folder, exist_ok=True)
-        subprocess.run(["apt-get", "download", "-qq", *PACKAGES], cwd=folder, check=True)
+        subprocess.run(["apt-get", "download", "-qq", *packages], cwd=folder, check=True)
         for package in (it for it in os.listdir(folder) if it.endswith(".deb")):
             subprocess.run(["dpkg-deb", "-x", package, "."], cwd=folder, check=True)
     return documents
@@ -49,7 +49,7 @@ def unpacked(folder):
 
 def pages_of(folder):
     """Kind and file of each page, cut to its length where it has one."""
-    documents, found = unpacked(folder), []
+    documents, found = unpacked(folder, PACKAGES), []
     for kind, name, length in PAGES:
         with open(os.path.join(documents, name), "rb") as it:
             page = it.read(length)

@@ -6,7 +6,7 @@
 With words, only the pages whose name has one of them. Each page is rendered at 1, 20 and 72 columns. A run in which a
 request was refused must answer as the run in which none is (status, standard output and standard error), or write
 nothing, say that memory ran out, and end with status 1 (the page), 2 (the words) or 3 (the table of references). A line
-tells of a page: its bytes; the requests of its runs at the three widths, each of which was refused; how many of these
+is of a page: its bytes; the requests of its runs at the three widths, each of which was refused; how many of these
 runs ended with each status after an allocation failure; how many answered all the same; and how many did anything else,
 each of which is reported. `refuse.c` is built by `cc` and preloaded.
 """
@@ -255,7 +255,7 @@ def refuse_each(runs, name):
 
 
 def measure(folder, program, kind):
-    """Refuses each request of a page at each width, and gives the line that tells of it, and the sums."""
+    """Refuses each request of a page at each width, and gives its line, and the sums."""
     name, maker, count, words = kind
     page = written(maker, count)
     asked, sums, ends = [], {1: 0, 2: 0, 3: 0, "answered": 0, "other": 0}, []

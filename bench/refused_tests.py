@@ -3,7 +3,7 @@
 
     bench/refused_tests.py PROGRAM TEST..
 
-Each is a test that holds either way. A line tells of a test: the requests of its run, each of which was refused, and
+Each is a test that holds either way. A line is of a test: the requests of its run, each of which was refused, and
 how many of these runs failed, each of which is reported.
 """
 

@@ -8,7 +8,7 @@ here=$(cd "$(dirname "$0")" && pwd)
 build_program "$here" render_trees \
   "tree_forest html_tree_builder html_render_dom render_values render_sizes render_conversion thiserror" '<p>x'
 
-tell() {
+show() {
   read -r nodes converted sized copied dropped < <("$crate/out/render_trees" <"$folder/page")
   python3 -c "print(f'$1: $nodes nodes, converted in {$converted / 1000:.1f} ms, measured in {$sized / 1000:.1f} ms, '
     f'copied in {$copied / 1000:.1f} ms, dropped in {$dropped / 1000:.1f} ms')"
@@ -17,6 +17,6 @@ tell() {
 for kind in i flat; do
   for count in 25000 50000 100000; do
     python3 "$here/make_nested.py" "$kind" "$count" >"$folder/page"
-    tell "$kind, $count"
+    show "$kind, $count"
   done
 done

@@ -8,13 +8,13 @@ A line says what program.py says.
 
 import sys
 
-from program import tell_all
+from program import show_all
 
 ROW = "<tr><td>some words<td>and others<td>here</tr>"
 
 
 def rows(count, row=ROW):
-    """A table of so many rows."""
+    """A table of that many rows."""
     return "<table>" + row * count + "</table>"
 
 
@@ -47,7 +47,7 @@ def pages():
 def main():
     if len(sys.argv) != 2:
         sys.exit(__doc__)
-    tell_all(sys.argv[1], pages())
+    show_all(sys.argv[1], pages())
 
 
 if __name__ == "__main__":

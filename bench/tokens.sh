@@ -1,5 +1,5 @@
 #!/usr/bin/env bash
-# Times the tokenizer, with a sink that only counts, on pages of six kinds and four sizes, fed in pieces of so many
+# Times the tokenizer, with a sink that only counts, on pages of six kinds and four sizes, fed in pieces of that many
 # kilobytes (64 without a word). The program is no crate of the repository, so it is proved and built in a copy of the
 # crates that it stands on, in the folder BENCH, which is kept: the first time that takes minutes.
 set -eu
@@ -27,7 +27,7 @@ for kind in markup text references comment attributes script; do
   for size in 1 2 4 8; do
     python3 "$here/make_tokens.py" "$kind" "$size" >"$folder/page"
     rm -f "$folder/times.new"
-    # the program takes the time itself, and tells the best of its readings in microseconds
+    # the program takes the time itself, and prints the best of its readings in microseconds
     for _ in 1 2 3 4; do
       /usr/bin/time -f %M -o "$folder/memory" \
         "$crate/out/count_tokens" "$piece" "$state" 8 <"$folder/page" >>"$folder/times.new"

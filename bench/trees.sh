@@ -8,10 +8,10 @@ here=$(cd "$(dirname "$0")" && pwd)
 build_program "$here" count_trees \
   "tree_forest html_tree_builder html_render_dom thiserror" '<p>' 64 1
 
-tell() {
+show() {
   bytes=$(stat -c %s "$folder/page")
   rm -f "$folder/times.new"
-  # the program takes the time itself, and tells the best of its readings in microseconds
+  # the program takes the time itself, and prints the best of its readings in microseconds
   for _ in 1 2 3; do
     /usr/bin/time -f %M -o "$folder/memory" "$crate/out/count_trees" 64 3 <"$folder/page" >>"$folder/times.new"
   done
@@ -23,12 +23,12 @@ tell() {
 
 for size in 1 2 4 8; do
   python3 "$here/make_tokens.py" markup "$size" >"$folder/page"
-  tell "markup, $size MB"
+  show "markup, $size MB"
 done
 for kind in div i li p cells a attributes other_ends listed_ends listed foreign_ends adopted fostered \
   body_attributes; do
   for count in 25000 50000 100000; do
     python3 "$here/make_nested.py" "$kind" "$count" >"$folder/page"
-    tell "$kind, $count"
+    show "$kind, $count"
   done
 done

@@ -1,4 +1,4 @@
-"""Times the writing of a page's tree: from the first bytes that the built program tells to its last ones.
+"""Times the writing of a page's tree: from the first bytes that the built program writes to its last ones.
 
 Usage: python3 bench/written.py PROGRAM PAGE
 

@@ -1,4 +1,4 @@
-//! Reads a page on standard input with html5ever and tells how long parsing takes. The words of the command line:
+//! Reads a page on standard input with html5ever and prints how long parsing takes. The words of the command line:
 //! `tokens` or `trees`, the kilobytes of a piece, and how often to parse the page.
 use html5ever::tendril::{StrTendril, TendrilSink};
 use html5ever::tokenizer::{BufferQueue, Token, TokenSink, TokenSinkResult, Tokenizer, TokenizerOpts};
@@ -220,7 +220,7 @@ impl TreeSink for Dom {
     }
 }
 
-/// The page in pieces of so many bytes, each cut where a character ends.
+/// The page in pieces of that many bytes, each cut where a character ends.
 fn pieces(page: &str, size: usize) -> Vec<StrTendril> {
     let mut rest = page;
     let mut pieces = Vec::new();
