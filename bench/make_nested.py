@@ -1,5 +1,5 @@
-"""Writes a page of the given number of parts of a kind to standard output: pages on which a tree builder could take more than its
-time."""
+"""Writes a page of the given number of parts of a kind to standard output: pages on which a tree builder could take
+more than its time."""
 import sys
 
 # of each kind: what stands before the parts, a part by its number, and what stands after them; of ENDS that as often
